@@ -1,0 +1,4 @@
+pub mod Split
+pub mod Join
+pub mod KindLaws
+pub mod ByteLaws

@@ -1,0 +1,4 @@
+pub mod Turns
+pub mod RuleLaws
+pub mod LevelLaws
+pub mod ThirteenPairs

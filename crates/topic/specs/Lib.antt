@@ -1,0 +1,4 @@
+pub mod Match
+pub mod Rules
+pub mod Answers
+pub mod Pairs

@@ -1,0 +1,4 @@
+pub mod Rules
+pub mod Turns
+pub mod Grammar
+pub mod Joined

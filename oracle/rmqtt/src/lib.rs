@@ -1,0 +1,5 @@
+//! Files of rmqtt, byte for byte as published, from the folder RMQTT_SRC. What they lean on comes
+//! from the small stand-ins in `../shim`. Nothing of rmqtt itself stands in this repository.
+#![allow(dead_code, unused_imports, clippy::all)]
+
+include!(concat!(env!("OUT_DIR"), "/modules.rs"));

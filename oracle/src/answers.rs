@@ -1,0 +1,134 @@
+//! The calls of the topic layer and what they answer: the words that the library, the reference
+//! and the judges share.
+
+use std::fmt;
+
+/// A refusal of document 01: its number, and its place (0 where no place is named).
+#[derive(Clone, Copy, Debug, PartialEq, Eq)]
+pub struct Refusal {
+    pub number: u64,
+    pub place: u64,
+}
+
+/// The refusal numbers of this layer, by document 01's names.
+pub mod number {
+    pub const EMPTY: u64 = 1;
+    pub const TOO_LONG: u64 = 2;
+    pub const NOT_UTF8: u64 = 3;
+    pub const HAS_NUL: u64 = 4;
+    pub const HAS_WILDCARD: u64 = 5;
+    pub const BAD_LEVEL: u64 = 6;
+    pub const HASH_NOT_LAST: u64 = 7;
+    pub const NO_INNER: u64 = 8;
+    pub const BAD_GROUP: u64 = 9;
+}
+
+/// What a call answers: its value, or a refusal.
+pub type Answer<T = u64> = Result<T, Refusal>;
+
+/// A level as a part of the caller's text.
+#[derive(Clone, Copy, Debug, PartialEq, Eq)]
+pub struct Part {
+    pub start: u64,
+    pub length: u64,
+}
+
+/// The kinds of a level, with the numbers of the C interface.
+#[derive(Clone, Copy, Debug, PartialEq, Eq)]
+pub enum Kind {
+    None = 0,
+    Normal = 1,
+    Metadata = 2,
+    Blank = 3,
+    SingleWildcard = 4,
+    MultiWildcard = 5,
+}
+
+/// The public calls of the topic layer. The library has them, and so has the reference.
+pub trait TopicCalls {
+    /// The number of levels; refused with 3, 6 or 7.
+    fn parse(&self, text: &[u8]) -> Answer;
+    /// The number of the `Kind` of level k.
+    fn level_kind(&self, text: &[u8], k: u64) -> Answer;
+    /// Where level k stands in the text.
+    fn level_part(&self, text: &[u8], k: u64) -> Answer<Part>;
+    /// The three validity tests answer 0 for a text that they accept.
+    fn is_valid_topic_name(&self, text: &[u8]) -> Answer;
+    fn is_valid_topic_filter(&self, text: &[u8]) -> Answer;
+    fn is_valid_subscription_filter(&self, text: &[u8]) -> Answer;
+    /// The three prefix tests answer 1 for yes and 0 for no.
+    fn is_shared_subscription(&self, text: &[u8]) -> Answer;
+    fn is_limit_subscription(&self, text: &[u8]) -> Answer;
+    fn is_exclusive_subscription(&self, text: &[u8]) -> Answer;
+    /// 1 where the filter takes the name, else 0.
+    fn matches(&self, filter: &[u8], name: &[u8]) -> Answer;
+}
+
+/// What was answered for one level.
+#[derive(Clone, Debug, PartialEq)]
+pub struct LevelAnswers {
+    pub k: u64,
+    pub kind: Answer,
+    pub part: Answer<Part>,
+}
+
+/// What was answered for one text, by every call that takes one text.
+#[derive(Clone, Debug, PartialEq)]
+pub struct TextAnswers {
+    pub parse: Answer,
+    pub name: Answer,
+    pub filter: Answer,
+    pub subscription: Answer,
+    pub shared: Answer,
+    pub limit: Answer,
+    pub exclusive: Answer,
+    pub levels: Vec<LevelAnswers>,
+}
+
+impl TextAnswers {
+    /// Asks every call about the text, and the level calls about each level of `asked`.
+    pub fn of(calls: &dyn TopicCalls, text: &[u8], asked: &[u64]) -> Self {
+        let level = |&k: &u64| LevelAnswers {
+            k,
+            kind: calls.level_kind(text, k),
+            part: calls.level_part(text, k),
+        };
+        TextAnswers {
+            parse: calls.parse(text),
+            name: calls.is_valid_topic_name(text),
+            filter: calls.is_valid_topic_filter(text),
+            subscription: calls.is_valid_subscription_filter(text),
+            shared: calls.is_shared_subscription(text),
+            limit: calls.is_limit_subscription(text),
+            exclusive: calls.is_exclusive_subscription(text),
+            levels: asked.iter().map(level).collect(),
+        }
+    }
+
+    /// The answers that are one number, by the names of their calls.
+    pub fn by_call(&self) -> [(&'static str, Answer); 7] {
+        [
+            ("parse", self.parse),
+            ("is_valid_topic_name", self.name),
+            ("is_valid_topic_filter", self.filter),
+            ("is_valid_subscription_filter", self.subscription),
+            ("is_shared_subscription", self.shared),
+            ("is_limit_subscription", self.limit),
+            ("is_exclusive_subscription", self.exclusive),
+        ]
+    }
+}
+
+/// An answer as a reader of document 01 would write it.
+pub fn in_words<T: fmt::Display>(answer: &Answer<T>) -> String {
+    match answer {
+        Ok(value) => value.to_string(),
+        Err(refusal) => format!("refused {} at {}", refusal.number, refusal.place),
+    }
+}
+
+impl fmt::Display for Part {
+    fn fmt(&self, f: &mut fmt::Formatter<'_>) -> fmt::Result {
+        write!(f, "{} bytes from {}", self.length, self.start)
+    }
+}
