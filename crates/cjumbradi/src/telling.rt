@@ -1,0 +1,74 @@
+// How an answer is told to C: a number is returned, and a value is handed back.
+ghost use mathlib.Core.Path.{_≡_};
+ghost use Rattle.refusal.specs.Refusals.{_at_, told};
+ghost use Rattle.cjumbradi.specs.Calls.{ofChecked, ofParsed, ofMatched, ofBool, ofKind};
+use level::Kind;
+use refusal::Refusal;
+use topic::Checked;
+use topic::Matched;
+use topic::Parsed;
+
+// Nothing is refused, and this was found.
+fn tell_found(found: u64, value: &mut u64) -> u64
+    ensures { λ n. ⌜ (n at now (value .exit)) ≡ (0 at found) ⌝ }
+{
+    *value = found;
+    0
+}
+
+fn tell_refusal(refusal: Refusal, place: &mut u64) -> u64
+    ensures { λ n. ⌜ (n at now (place .exit)) ≡ told refusal ⌝ }
+{
+    *place = refusal::place(refusal);
+    refusal::number(refusal)
+}
+
+pub fn tell_checked(checked: Checked, place: &mut u64) -> u64
+    ensures { λ n. ⌜ (n at now (place .exit)) ≡ ofChecked checked ⌝ }
+{
+    match checked {
+        Checked::Accepted => tell_found(0, place),
+        Checked::Refused(refusal) => tell_refusal(refusal, place),
+    }
+}
+
+pub fn tell_parsed(parsed: Parsed, value: &mut u64) -> u64
+    ensures { λ n. ⌜ (n at now (value .exit)) ≡ ofParsed parsed ⌝ }
+{
+    match parsed {
+        Parsed::Levels { count } => tell_found(count as u64, value),
+        Parsed::Refused(refusal) => tell_refusal(refusal, value),
+    }
+}
+
+pub fn tell_matched(matched: Matched, value: &mut u64) -> u64
+    ensures { λ n. ⌜ (n at now (value .exit)) ≡ ofMatched matched ⌝ }
+{
+    match matched {
+        Matched::Yes => tell_found(1, value),
+        Matched::No => tell_found(0, value),
+        Matched::Refused(refusal) => tell_refusal(refusal, value),
+    }
+}
+
+pub fn tell_bool(answer: bool, yes: &mut u64) -> u64
+    ensures { λ n. ⌜ (n at now (yes .exit)) ≡ ofBool answer ⌝ }
+{
+    if answer {
+        return tell_found(1, yes);
+    }
+    tell_found(0, yes)
+}
+
+pub fn tell_kind(kind: Kind, value: &mut u64) -> u64
+    ensures { λ n. ⌜ (n at now (value .exit)) ≡ ofKind kind ⌝ }
+{
+    match kind {
+        Kind::None => tell_found(0, value),
+        Kind::Normal => tell_found(1, value),
+        Kind::Metadata => tell_found(2, value),
+        Kind::Blank => tell_found(3, value),
+        Kind::SingleWildcard => tell_found(4, value),
+        Kind::MultiWildcard => tell_found(5, value),
+    }
+}
