@@ -2,3 +2,4 @@ pub mod Turns
 pub mod RuleLaws
 pub mod LevelLaws
 pub mod ThirteenPairs
+pub mod Texts
