@@ -212,3 +212,7 @@ part-end s i e = ap (λ (l : List ℕ). i + length l) e
 
 pub part-fits : (s : List ℕ) (i : ℕ) {l : List ℕ} → i ≤ length s → l ≡ first (drop i s) → i + length l ≤ length s
 part-fits s i h e = rw (part-end s i e) (end-within s i h)
+
+-- no level begins past the end
+pub part-past : (s : List ℕ) (i : ℕ) → length s < i → [] ≡ first (drop i s)
+part-past s i h = rw (drop-of-length-le s {i = i} (omega arith))

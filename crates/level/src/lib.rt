@@ -1,6 +1,5 @@
 // The levels of a text: what stands between its '/'s. A level is handed out as a part of the caller's own bytes.
 ghost use mathlib.Core.Path.{_≡_};
-ghost use Prim.Native.Nat.{_≤_};
 ghost use lib.ListN.{length, drop};
 ghost use Rattle.level.specs.Levels.{split, startOf, has};
 ghost use Rattle.level.specs.Kinds.{isOnly, wild, dollar, bad, same, kindOf};
@@ -61,11 +60,13 @@ pub fn level_start(text: &[u8], k: usize) -> usize
     at
 }
 
-// The level that begins at a position.
+// The level that begins at a position; empty past the end.
 pub fn part_at(text: &[u8], at: usize) -> &[u8]
-    requires { ⌜ at ≤ length (now text) ⌝ }
     ensures { λ r. ⌜ now r ≡ first (drop at (now (text .entry))) ⌝ }
 {
+    if text.len() < at {
+        return &text[..0];
+    }
     let end = level_end(text, at);
     &text[at..end]
 }

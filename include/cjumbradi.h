@@ -1,0 +1,71 @@
+/* Cjumbradi: MQTT topic names and filters, for a caller in C or Rust.
+ *
+ * A text is a pointer and a length. It need not end with a NUL, and it may hold any bytes: each call
+ * tests its own input. The pointer is not null, also where the length is 0. Texts are read only, and a
+ * call keeps no pointer after it returns. A value that is handed back overlaps no text.
+ *
+ * Each call returns the number of the refusal, 0 for none, and hands a value back: what it found, or
+ * where it refuses, the place of the refusal.
+ */
+#ifndef CJUMBRADI_H
+#define CJUMBRADI_H
+
+#include <stddef.h>
+#include <stdint.h>
+
+#ifdef __cplusplus
+extern "C" {
+#endif
+
+/* The refusals, by their numbers. The place is 0 where none is named. */
+#define CJUMBRADI_EMPTY 1         /* a name or a filter of no bytes */
+#define CJUMBRADI_TOO_LONG 2      /* over 65,535 bytes */
+#define CJUMBRADI_NOT_UTF8 3      /* not UTF-8 by RFC 3629 */
+#define CJUMBRADI_HAS_NUL 4       /* a byte 0 */
+#define CJUMBRADI_HAS_WILDCARD 5  /* '+' or '#' in a name */
+#define CJUMBRADI_BAD_LEVEL 6     /* '+' or '#' beside other bytes; place: the level, from 0 */
+#define CJUMBRADI_HASH_NOT_LAST 7 /* '#' before the last level; place: the level, from 0 */
+#define CJUMBRADI_NO_INNER 8      /* `$share/`: no '/' after the group, or nothing after it */
+#define CJUMBRADI_BAD_GROUP 9     /* `$share/`: '+' or '#' in the group */
+
+/* What a level is. */
+#define CJUMBRADI_NONE 0 /* there is no such level */
+#define CJUMBRADI_NORMAL 1
+#define CJUMBRADI_METADATA 2 /* its first byte is '$' */
+#define CJUMBRADI_BLANK 3
+#define CJUMBRADI_SINGLE_WILDCARD 4 /* '+' */
+#define CJUMBRADI_MULTI_WILDCARD 5  /* '#' */
+
+/* How many levels a text has. Refuses 3, 6, 7 and nothing else. */
+uint64_t cjumbradi_parse(const uint8_t *text, size_t text_len, uint64_t *levels);
+
+/* What level k is, from 0; none where k is past the end or the text does not parse. Refuses nothing. */
+uint64_t cjumbradi_level_kind(const uint8_t *text, size_t text_len, uint64_t k, uint64_t *kind);
+
+/* Where level k begins in the text, and its length. Where there is no such level: the text's length,
+ * and 0. Refuses nothing. */
+uint64_t cjumbradi_level_part(const uint8_t *text, size_t text_len, uint64_t k, uint64_t *start,
+                              uint64_t *length);
+
+/* Whether a text is a topic name (refuses 1 to 5), a topic filter (1 to 4, 6, 7), or a filter to put in
+ * a SUBSCRIBE (1 to 4, 6 to 9; in `$share/` text 6 and 7 count the levels of the filter behind the
+ * group). Where more than one number is true, the smallest is given. */
+uint64_t cjumbradi_is_valid_topic_name(const uint8_t *text, size_t text_len, uint64_t *place);
+uint64_t cjumbradi_is_valid_topic_filter(const uint8_t *text, size_t text_len, uint64_t *place);
+uint64_t cjumbradi_is_valid_subscription_filter(const uint8_t *text, size_t text_len, uint64_t *place);
+
+/* Whether a text begins with `$share/`, `$limit/` or `$exclusive/`: 1 or 0. They refuse nothing. */
+uint64_t cjumbradi_is_shared_subscription(const uint8_t *text, size_t text_len, uint64_t *yes);
+uint64_t cjumbradi_is_limit_subscription(const uint8_t *text, size_t text_len, uint64_t *yes);
+uint64_t cjumbradi_is_exclusive_subscription(const uint8_t *text, size_t text_len, uint64_t *yes);
+
+/* Whether a filter takes a name by MQTT 4.7: 1 or 0. A fault of the filter is refused before one of the
+ * name. */
+uint64_t cjumbradi_matches(const uint8_t *filter, size_t filter_len, const uint8_t *name,
+                           size_t name_len, uint64_t *yes);
+
+#ifdef __cplusplus
+}
+#endif
+
+#endif
