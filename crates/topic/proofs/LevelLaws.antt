@@ -76,7 +76,7 @@ module _ (s : List ℕ) (k : ℕ) {p : Parsed} (ep : p ≡ parsed s) where
       there : k < length (split s)
       there = rw (← counted) h
 
-      pub level-within : at ≤ length s
+      level-within : at ≤ length s
       level-within = rw ea (start-within s k there)
 
       pub place-here : at ≡ placeAt s k

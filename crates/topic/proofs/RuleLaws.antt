@@ -12,49 +12,47 @@ use Rattle.refusal.specs.declared.Refusal.{Refusal}
 use Rattle.refusal.specs.declared.Refusal.the-variants.{Empty, TooLong, NotUtf8, HasNul, BadLevel, HashNotLast, NoInner, BadGroup}
 use Rattle.level.specs.Levels.{split, startOf, has}
 use Rattle.level.specs.Places.{first}
-use Rattle.level.specs.Kinds.{blank, wild}
+use Rattle.level.specs.Kinds.{blank, isOnly, wild, bad}
 use Rattle.utf8.specs.Utf8.{isUtf8}
 use Rattle.level.proofs.KindLaws.{length-nil, blank-none, blank-some}
 use Rattle.level.proofs.ByteLaws.{same-lengths}
 use Rattle.level.proofs.Split.{split-cons, levels-in, levels-out}
 use Rattle.topic.specs.declared.Checked.{Checked}
 use Rattle.topic.specs.declared.Checked.the-variants.{Accepted, Refused}
-use Rattle.topic.specs.declared.Fault.{Fault}
-use Rattle.topic.specs.declared.Fault.the-variants.{Bad, Hash}
-use Rattle.topic.specs.Rules.{Rule, _gives_, faulty, index, levelRules, textRules, starts, groupOf, innerOf, sharedRules, ascii, plainOrShared}
+use Rattle.topic.specs.Rules.{Rule, _gives_, index, levelRules, textRules, starts, groupOf, innerOf, sharedRules, ascii, plainOrShared}
 use Rattle.topic.specs.Answers.{checked}
 
 -- a turn of the search, at level k, which begins at at
-module _ (f : Fault) (s : List ℕ) (k : ℕ) {at : ℕ} (e : at ≡ startOf s k) where
-  pub fault-here : at ≤ length s → faulty f (first (drop at s)) ≡ true → index f (drop k (split s)) ≡ 0
+module _ (p : List ℕ → Bool) (s : List ℕ) (k : ℕ) {at : ℕ} (e : at ≡ startOf s k) where
+  pub fault-here : at ≤ length s → p (first (drop at s)) ≡ true → index p (drop k (split s)) ≡ 0
   fault-here h t = rw (levels-in s k e h, t)
 
-  pub fault-next : at ≤ length s → faulty f (first (drop at s)) ≡ false → index f (drop k (split s)) ≡ suc (index f (drop (k + 1) (split s)))
+  pub fault-next : at ≤ length s → p (first (drop at s)) ≡ false → index p (drop k (split s)) ≡ suc (index p (drop (k + 1) (split s)))
   fault-next h t = rw (levels-in s k e h, t, add-one)
 
-  pub fault-none : length s < at → index f (drop k (split s)) ≡ 0
+  pub fault-none : length s < at → index p (drop k (split s)) ≡ 0
   fault-none h = rw (levels-out s k e h)
 
 pub some-level : (s : List ℕ) → 0 < length (split s)
 some-level s = rw (split-cons s) (omega arith)
 
 -- the answers of `check_levels`, from the number of levels and the two searches
-module _ (s : List ℕ) {n b : ℕ} (en : n ≡ length (split s)) (eb : b ≡ index Bad (split s)) where
+module _ (s : List ℕ) {n b : ℕ} (en : n ≡ length (split s)) (eb : b ≡ index bad (split s)) where
   pub levels-bad : b < n → Refused (BadLevel b) ≡ checked (levelRules s)
   levels-bad l =
-      let t : ltb (index Bad (split s)) (length (split s)) ≡ true = lt-ltb (index Bad (split s)) (length (split s)) (omega arith) in
+      let t : ltb (index bad (split s)) (length (split s)) ≡ true = lt-ltb (index bad (split s)) (length (split s)) (omega arith) in
       rw (t, eb)
 
-  pub levels-hash : {h : ℕ} → n ≤ b → h ≡ index Hash (split s) → h < n - 1 → Refused (HashNotLast h) ≡ checked (levelRules s)
+  pub levels-hash : {h : ℕ} → n ≤ b → h ≡ index (isOnly 35) (split s) → h < n - 1 → Refused (HashNotLast h) ≡ checked (levelRules s)
   levels-hash k eh l =
-      let t : ltb (index Bad (split s)) (length (split s)) ≡ false = le-ltb (index Bad (split s)) (length (split s)) (omega arith) in
-      let u : ltb (index Hash (split s) + 1) (length (split s)) ≡ true = lt-ltb (index Hash (split s) + 1) (length (split s)) (omega arith) in
+      let t : ltb (index bad (split s)) (length (split s)) ≡ false = le-ltb (index bad (split s)) (length (split s)) (omega arith) in
+      let u : ltb (index (isOnly 35) (split s) + 1) (length (split s)) ≡ true = lt-ltb (index (isOnly 35) (split s) + 1) (length (split s)) (omega arith) in
       rw (t, u, eh)
 
-  pub levels-fine : {h : ℕ} → n ≤ b → h ≡ index Hash (split s) → n - 1 ≤ h → Accepted ≡ checked (levelRules s)
+  pub levels-fine : {h : ℕ} → n ≤ b → h ≡ index (isOnly 35) (split s) → n - 1 ≤ h → Accepted ≡ checked (levelRules s)
   levels-fine k eh l =
-      let t : ltb (index Bad (split s)) (length (split s)) ≡ false = le-ltb (index Bad (split s)) (length (split s)) (omega arith) in
-      let u : ltb (index Hash (split s) + 1) (length (split s)) ≡ false = le-ltb (index Hash (split s) + 1) (length (split s)) (omega arith) in
+      let t : ltb (index bad (split s)) (length (split s)) ≡ false = le-ltb (index bad (split s)) (length (split s)) (omega arith) in
+      let u : ltb (index (isOnly 35) (split s) + 1) (length (split s)) ≡ false = le-ltb (index (isOnly 35) (split s) + 1) (length (split s)) (omega arith) in
       rw (t, u)
 
 -- rules after rules

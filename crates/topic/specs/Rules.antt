@@ -11,22 +11,16 @@ use Rattle.refusal.specs.declared.Refusal.the-variants.{Empty, TooLong, NotUtf8
 use Rattle.utf8.specs.Utf8.{isUtf8}
 use Rattle.level.specs.Levels.{split, has}
 use Rattle.level.specs.Kinds.{blank, isOnly, wild, bad, same}
-use Rattle.topic.specs.declared.Fault.{Fault}
-use Rattle.topic.specs.declared.Fault.the-variants.{Bad, Hash}
 
 -- a rule: when it is broken, and the refusal that it gives
 infix 80 _gives_
 pub data Rule : Type 0 where
   _gives_ : Bool → Refusal → Rule
 
--- the index of the first level that has a fault; the number of levels where none has it
-abbrev pub faulty : Fault → List ℕ → Bool
-faulty Bad l = bad l
-faulty Hash l = isOnly 35 l
-
-abbrev pub index : Fault → List (List ℕ) → ℕ
-index f [] = 0
-index f (l ∷ ls) = cond (faulty f l) 0 (suc (index f ls))
+-- the index of the first level of which p holds; the number of levels where it holds of none
+abbrev pub index : (List ℕ → Bool) → List (List ℕ) → ℕ
+index p [] = 0
+index p (l ∷ ls) = cond (p l) 0 (suc (index p ls))
 
 -- what a refusal says of the place of level k of a text: "from 0"
 abbrev pub levelPlace : List ℕ → ℕ → ℕ
@@ -35,8 +29,8 @@ levelPlace s k = k
 -- "All levels are tested first, then the place of #, which may only be last."
 abbrev pub levelRules : List ℕ → List Rule
 levelRules s =
-    ltb (index Bad (split s)) (length (split s)) gives BadLevel (levelPlace s (index Bad (split s)))
-    ∷ ltb (index Hash (split s) + 1) (length (split s)) gives HashNotLast (levelPlace s (index Hash (split s)))
+    ltb (index bad (split s)) (length (split s)) gives BadLevel (levelPlace s (index bad (split s)))
+    ∷ ltb (index (isOnly 35) (split s) + 1) (length (split s)) gives HashNotLast (levelPlace s (index (isOnly 35) (split s)))
     ∷ []
 
 -- "Parsing gives only 3, 6, 7."

@@ -1,7 +1,8 @@
 // The faults of a text's levels: refusals 6 and 7.
 ghost use mathlib.Core.Path.{_≡_};
 ghost use Rattle.level.specs.Levels.{split};
-ghost use Rattle.topic.specs.Rules.{faulty, index, levelRules};
+ghost use Rattle.topic.specs.Rules.{index, levelRules};
+ghost use Rattle.topic.specs.Faults.{faulty};
 ghost use Rattle.topic.specs.Answers.{checked};
 use crate::Checked;
 use crate::Fault;
@@ -19,7 +20,7 @@ fn has_fault(level: &[u8], fault: Fault) -> bool
 
 // The index of the first level that has the fault; the number of levels where none has it.
 fn first_fault(text: &[u8], fault: Fault) -> usize
-    ensures { λ r. ⌜ r ≡ index fault (split (now (text .entry))) ⌝ }
+    ensures { λ r. ⌜ r ≡ index (faulty fault) (split (now (text .entry))) ⌝ }
 {
     let mut at = 0;
     let mut k = 0;

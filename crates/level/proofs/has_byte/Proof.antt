@@ -1,15 +1,13 @@
 -- `level::has_byte` meets its contract. Assumes nothing.
 use borrow.Author.Needs.{needs}
 use mathlib.Core.Path.{_≡_, refl, sym, _∙_}
-use Prim.Native.Nat.{ℕ, _-_}
+use Prim.Native.Nat.{_-_}
 use lib.ListN.{length, drop}
 use denote.Ref.{now}
 use Rattle.level.specs.Levels.{has}
 use Rattle.level.proofs.ByteLaws.{has-here, has-next, has-end}
 use Rattle.level.proofs.has_byte.Statement.{statement}
 use Rattle.level.proofs.has_byte.Tie as tie
-use Rattle.level.proofs.has_byte.Reads as reads
-use Rattle.level.proofs.has_byte.Lts as lts
 
 abbrev Inv-loop : tie.InvT-loop
 Inv-loop s b i₀ i = has b (drop i s) ≡ has b s

@@ -1,15 +1,12 @@
 -- `level::has_wildcard` meets its contract. Assumes nothing.
 use borrow.Author.Needs.{needs}
 use mathlib.Core.Path.{_≡_, refl, sym, _∙_}
-use Prim.Native.Nat.{ℕ, _-_}
+use Prim.Native.Nat.{_-_}
 use lib.ListN.{length, drop}
-use denote.Ref.{now}
 use Rattle.level.specs.Kinds.{wild}
 use Rattle.level.proofs.KindLaws.{wild-plus, wild-hash, wild-other, wild-end}
 use Rattle.level.proofs.has_wildcard.Statement.{statement}
 use Rattle.level.proofs.has_wildcard.Tie as tie
-use Rattle.level.proofs.has_wildcard.Reads as reads
-use Rattle.level.proofs.has_wildcard.Lts as lts
 
 abbrev Inv-loop : tie.InvT-loop
 Inv-loop l i₀ i = wild (drop i l) ≡ wild l

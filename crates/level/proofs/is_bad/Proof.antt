@@ -3,19 +3,13 @@ use borrow.Author.Needs.{needs}
 use Rattle.level.proofs.KindLaws.{bad-long, bad-short}
 use Rattle.level.proofs.is_bad.Statement.{statement}
 use Rattle.level.proofs.is_bad.Tie as tie
-use Rattle.level.proofs.is_bad.Reads as reads
-use Rattle.level.proofs.is_bad.Lts as lts
-use Rattle.level.proofs.has_wildcard.Reads as has-wildcard-reads
 
--- src/lib.rt:144:9
 has-wildcard-requires : tie.Need-has-wildcard-requires
 has-wildcard-requires c κs = search needs
 
--- src/lib.rt:144:9
 returns : tie.Need-returns
 returns c = search (needs, bad-long)
 
--- src/lib.rt:140:1
 returns-2 : tie.Need-returns-2
 returns-2 c = search (needs, bad-short)
 

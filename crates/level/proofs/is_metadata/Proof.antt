@@ -4,8 +4,6 @@ use denote.Ref.{now}
 use Rattle.level.proofs.KindLaws.{dollar-none, dollar-some}
 use Rattle.level.proofs.is_metadata.Statement.{statement}
 use Rattle.level.proofs.is_metadata.Tie as tie
-use Rattle.level.proofs.is_metadata.Reads as reads
-use Rattle.level.proofs.is_metadata.Lts as lts
 
 shared-slice-read-result : tie.Need-shared-slice-read-result
 shared-slice-read-result c = search needs

@@ -4,8 +4,6 @@ use denote.Ref.{now}
 use Rattle.level.proofs.KindLaws.{only-one, only-not}
 use Rattle.level.proofs.is_only.Statement.{statement}
 use Rattle.level.proofs.is_only.Tie as tie
-use Rattle.level.proofs.is_only.Reads as reads
-use Rattle.level.proofs.is_only.Lts as lts
 
 shared-slice-read-result : tie.Need-shared-slice-read-result
 shared-slice-read-result c = search needs

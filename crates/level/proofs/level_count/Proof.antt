@@ -1,8 +1,8 @@
 -- `level::level_count` meets its contract: the levels passed and those left are all. Assumes nothing.
 use borrow.Author.Needs.{needs}
-use mathlib.Core.Path.{_≡_, refl}
+use mathlib.Core.Path.{_≡_}
 use mathlib.Core.Logic.{⊎-elim}
-use Prim.Native.Nat.{ℕ, _+_, _≤_, _-_}
+use Prim.Native.Nat.{_+_, _≤_, _-_}
 use native.Mathlib.Omega.{arith}
 use lib.ListN.{length, drop}
 use denote.Ref.{now}
@@ -10,8 +10,6 @@ use Rattle.level.specs.Levels.{split}
 use Rattle.level.proofs.Split.{count-slash, count-other, count-end}
 use Rattle.level.proofs.level_count.Statement.{statement}
 use Rattle.level.proofs.level_count.Tie as tie
-use Rattle.level.proofs.level_count.Reads as reads
-use Rattle.level.proofs.level_count.Lts as lts
 
 abbrev Inv-loop : tie.InvT-loop
 Inv-loop s n₀ i₀ n i = (i ≤ length s) × (n + length (split (drop i s)) ≡ length (split s) + 1) × (n ≤ i + 1)

@@ -1,14 +1,12 @@
 -- `level::level_end` meets its contract: the level's end is the same seen from each byte passed. Assumes nothing.
 use borrow.Author.Needs.{needs}
 use mathlib.Core.Path.{_≡_, refl, sym, _∙_}
-use Prim.Native.Nat.{ℕ, _≤_, _<_, _-_}
+use Prim.Native.Nat.{_-_}
 use lib.ListN.{length}
 use Rattle.level.specs.Places.{endOf}
 use Rattle.level.proofs.Split.{end-here, end-next, end-past}
 use Rattle.level.proofs.level_end.Statement.{statement}
 use Rattle.level.proofs.level_end.Tie as tie
-use Rattle.level.proofs.level_end.Reads as reads
-use Rattle.level.proofs.level_end.Lts as lts
 
 abbrev Inv-loop : tie.InvT-loop
 Inv-loop s from i₀ i = endOf s i ≡ endOf s from

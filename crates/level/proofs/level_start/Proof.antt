@@ -1,17 +1,13 @@
 -- `level::level_start` meets its contract: `at` is where level j begins. Assumes nothing.
 use borrow.Author.Needs.{needs}
 use mathlib.Core.Path.{_≡_, refl, ap, _∙_}
-use Prim.Native.Nat.{ℕ, _≤_, _-_}
+use Prim.Native.Nat.{_≤_, _-_}
 use native.Mathlib.Omega.{arith}
-use lib.ListN.{length}
 use denote.Ref.{now}
 use Rattle.level.specs.Levels.{startOf}
 use Rattle.level.proofs.Split.{start-step, start-stop, end-within}
 use Rattle.level.proofs.level_start.Statement.{statement}
 use Rattle.level.proofs.level_start.Tie as tie
-use Rattle.level.proofs.level_start.Reads as reads
-use Rattle.level.proofs.level_start.Lts as lts
-use Rattle.level.proofs.level_end.Reads as level-end-reads
 
 abbrev Inv-loop : tie.InvT-loop
 Inv-loop s k at₀ j₀ at j = (at ≡ startOf s j) × (j ≤ k)

@@ -5,38 +5,28 @@ use denote.Ref.{now}
 use Rattle.level.proofs.Split.{part-first, part-past, end-within}
 use Rattle.level.proofs.part_at.Statement.{statement}
 use Rattle.level.proofs.part_at.Tie as tie
-use Rattle.level.proofs.part_at.Reads as reads
-use Rattle.level.proofs.part_at.Lts as lts
-use Rattle.level.proofs.level_end.Reads as level-end-reads
 
--- src/lib.rt:68:9
 slice-aggregate-result : tie.Need-slice-aggregate-result
 slice-aggregate-result c = search needs
 
--- src/lib.rt:68:9
 returns : tie.Need-returns
 returns c = search (needs, part-past)
 
--- src/lib.rt:70:9
 level-end-requires : tie.Need-level-end-requires
 level-end-requires c κs = search needs
 
--- src/lib.rt:71:5
 sub-result : tie.Need-sub-result
 sub-result c = search needs
 
--- src/lib.rt:71:5
 part-result-start : tie.Need-part-result-start
 part-result-start c = search needs
 
--- src/lib.rt:71:5
 part-result-end : tie.Need-part-result-end
 part-result-end c =
     let e = c .before in
     let a = e .before .before .args in
     omega (arith, c .level-end .ensures, end-within (now (a .text)) (a .at) (e .if1 .left))
 
--- src/lib.rt:64:1
 returns-2 : tie.Need-returns-2
 returns-2 c =
     let a = c .before .before .before .before .args in

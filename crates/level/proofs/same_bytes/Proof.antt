@@ -1,7 +1,7 @@
 -- `level::same_bytes` meets its contract. Assumes nothing.
 use borrow.Author.Needs.{needs}
 use mathlib.Core.Path.{_≡_, refl, sym, _∙_}
-use Prim.Native.Nat.{ℕ, _≤_, _-_}
+use Prim.Native.Nat.{_-_}
 use native.Mathlib.Omega.{arith}
 use lib.ListN.{length, drop}
 use denote.Ref.{now}
@@ -9,8 +9,6 @@ use Rattle.level.specs.Kinds.{same}
 use Rattle.level.proofs.ByteLaws.{same-lengths, same-stop, same-next, same-end}
 use Rattle.level.proofs.same_bytes.Statement.{statement}
 use Rattle.level.proofs.same_bytes.Tie as tie
-use Rattle.level.proofs.same_bytes.Reads as reads
-use Rattle.level.proofs.same_bytes.Lts as lts
 
 abbrev Inv-loop : tie.InvT-loop
 Inv-loop a b i₀ i = (length a ≡ length b) × (same (drop i a) (drop i b) ≡ same a b)

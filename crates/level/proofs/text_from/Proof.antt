@@ -8,32 +8,24 @@ use lib.ListN.{length, drop, length-drop, drop-of-length-le}
 use lib.Seq.{take-all}
 use Rattle.level.proofs.text_from.Statement.{statement}
 use Rattle.level.proofs.text_from.Tie as tie
-use Rattle.level.proofs.text_from.Reads as reads
-use Rattle.level.proofs.text_from.Lts as lts
 
--- src/lib.rt:78:9
 sub-result : tie.Need-sub-result
 sub-result c = search needs
 
--- src/lib.rt:78:9
 part-result-start : tie.Need-part-result-start
 part-result-start c = search needs
 
--- src/lib.rt:78:9
 part-result-end : tie.Need-part-result-end
 part-result-end c = search needs
 
--- src/lib.rt:80:9
 slice-aggregate-result : tie.Need-slice-aggregate-result
 slice-aggregate-result c = search needs
 
--- src/lib.rt:74:1
 returns : tie.Need-returns
 returns c =
     let a = c .before .before .args in
     take-all (length (now (a .text)) - a .at) (drop (a .at) (now (a .text))) (simp length-drop (omega arith))
 
--- src/lib.rt:74:1
 returns-2 : tie.Need-returns-2
 returns-2 c = sym (drop-of-length-le (now (c .before .before .args .text)) (c .before .if1 .left))
 

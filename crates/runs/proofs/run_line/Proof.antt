@@ -4,133 +4,91 @@ use native.Mathlib.Omega.{arith}
 use lib.ListN.{length-take}
 use Rattle.runs.proofs.run_line.Statement.{statement}
 use Rattle.runs.proofs.run_line.Tie as tie
-use Rattle.runs.proofs.run_line.Reads as reads
-use Rattle.runs.proofs.run_line.Lts as lts
-use Rattle.level.proofs.same_bytes.Reads as same-bytes-reads
-use Rattle.level.proofs.text_from.Reads as text-from-reads
-use Rattle.runs.proofs.find.Reads as find-reads
-use Rattle.runs.proofs.run_match.Reads as run-match-reads
-use Rattle.runs.proofs.say.Reads as say-reads
-use Rattle.runs.proofs.say_checked.Reads as say-checked-reads
-use Rattle.runs.proofs.say_parsed.Reads as say-parsed-reads
-use Rattle.topic.proofs.parse.Reads as parse-reads
-use Rattle.topic.proofs.is_valid_subscription_filter.Reads as is-valid-subscription-filter-reads
-use Rattle.topic.proofs.is_valid_topic_filter.Reads as is-valid-topic-filter-reads
-use Rattle.topic.proofs.is_valid_topic_name.Reads as is-valid-topic-name-reads
 
--- src/main.rt:91:5
 say-requires : tie.Need-say-requires
 say-requires c κs = search needs
 
--- src/main.rt:92:9
 slice-aggregate-say : tie.Need-slice-aggregate-say
 slice-aggregate-say c = search needs
 
--- src/main.rt:92:5
 say-requires-2 : tie.Need-say-requires-2
 say-requires-2 c κs = search needs
 
--- src/main.rt:93:9
 find-requires : tie.Need-find-requires
 find-requires c κs = search needs
 
--- src/main.rt:94:9
 slice-aggregate-call : tie.Need-slice-aggregate-call
 slice-aggregate-call c = simp length-take (omega arith)
 
--- src/main.rt:95:39
 add-text-from : tie.Need-add-text-from
 add-text-from c = search needs
 
--- src/main.rt:95:9
 text-from-requires : tie.Need-text-from-requires
 text-from-requires c κs = search needs
 
--- src/main.rt:96:32
 slice-aggregate-same-bytes : tie.Need-slice-aggregate-same-bytes
 slice-aggregate-same-bytes c = search needs
 
--- src/main.rt:96:8
 same-bytes-requires : tie.Need-same-bytes-requires
 same-bytes-requires c κs = search needs
 
--- src/main.rt:97:27
 parse-requires : tie.Need-parse-requires
 parse-requires c κs = search needs
 
--- src/main.rt:97:9
 say-parsed-requires : tie.Need-say-parsed-requires
 say-parsed-requires c κs = search needs
 
--- src/main.rt:97:9
 returns : tie.Need-returns
 returns c = search needs
 
--- src/main.rt:99:32
 slice-aggregate-same-bytes-2 : tie.Need-slice-aggregate-same-bytes-2
 slice-aggregate-same-bytes-2 c = search needs
 
--- src/main.rt:99:8
 same-bytes-requires-2 : tie.Need-same-bytes-requires-2
 same-bytes-requires-2 c κs = search needs
 
--- src/main.rt:100:28
 is-valid-topic-name-requires : tie.Need-is-valid-topic-name-requires
 is-valid-topic-name-requires c κs = search needs
 
--- src/main.rt:100:9
 say-checked-requires : tie.Need-say-checked-requires
 say-checked-requires c κs = search needs
 
--- src/main.rt:100:9
 returns-2 : tie.Need-returns-2
 returns-2 c = search needs
 
--- src/main.rt:102:32
 slice-aggregate-same-bytes-3 : tie.Need-slice-aggregate-same-bytes-3
 slice-aggregate-same-bytes-3 c = search needs
 
--- src/main.rt:102:8
 same-bytes-requires-3 : tie.Need-same-bytes-requires-3
 same-bytes-requires-3 c κs = search needs
 
--- src/main.rt:103:28
 is-valid-topic-filter-requires : tie.Need-is-valid-topic-filter-requires
 is-valid-topic-filter-requires c κs = search needs
 
--- src/main.rt:103:9
 say-checked-requires-2 : tie.Need-say-checked-requires-2
 say-checked-requires-2 c κs = search needs
 
--- src/main.rt:103:9
 returns-3 : tie.Need-returns-3
 returns-3 c = search needs
 
--- src/main.rt:105:32
 slice-aggregate-same-bytes-4 : tie.Need-slice-aggregate-same-bytes-4
 slice-aggregate-same-bytes-4 c = search needs
 
--- src/main.rt:105:8
 same-bytes-requires-4 : tie.Need-same-bytes-requires-4
 same-bytes-requires-4 c κs = search needs
 
--- src/main.rt:106:28
 is-valid-subscription-filter-requires : tie.Need-is-valid-subscription-filter-requires
 is-valid-subscription-filter-requires c κs = search needs
 
--- src/main.rt:106:9
 say-checked-requires-3 : tie.Need-say-checked-requires-3
 say-checked-requires-3 c κs = search needs
 
--- src/main.rt:106:9
 returns-4 : tie.Need-returns-4
 returns-4 c = search needs
 
--- src/main.rt:108:5
 run-match-requires : tie.Need-run-match-requires
 run-match-requires c κs = search needs
 
--- src/main.rt:90:1
 returns-5 : tie.Need-returns-5
 returns-5 c = search needs
 

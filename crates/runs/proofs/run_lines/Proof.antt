@@ -4,10 +4,6 @@ use Prim.Native.Nat.{_≤_, _+_, _-_}
 use lib.ListN.{length}
 use Rattle.runs.proofs.run_lines.Statement.{statement}
 use Rattle.runs.proofs.run_lines.Tie as tie
-use Rattle.runs.proofs.run_lines.Reads as reads
-use Rattle.runs.proofs.run_lines.Lts as lts
-use Rattle.runs.proofs.find.Reads as find-reads
-use Rattle.runs.proofs.run_line.Reads as run-line-reads
 
 abbrev Inv-loop : tie.InvT-loop
 Inv-loop text at₀ at = at ≤ length text + 1
@@ -15,43 +11,33 @@ Inv-loop text at₀ at = at ≤ length text + 1
 abbrev μ-loop : tie.MeasureT-loop
 μ-loop text at₀ at = length text + 1 - at
 
--- src/main.rt:113:5
 loop-holds : tie.Need-loop-holds Inv-loop μ-loop
 loop-holds c = search needs
 
--- src/main.rt:114:13
 find-requires : tie.Need-find-requires Inv-loop μ-loop
 find-requires c κs = search needs
 
--- src/main.rt:115:18
 sub-run-line : tie.Need-sub-run-line Inv-loop μ-loop
 sub-run-line c = search needs
 
--- src/main.rt:115:18
 part-run-line-start : tie.Need-part-run-line-start Inv-loop μ-loop
 part-run-line-start c = search needs
 
--- src/main.rt:115:18
 part-run-line-end : tie.Need-part-run-line-end Inv-loop μ-loop
 part-run-line-end c = search needs
 
--- src/main.rt:115:9
 run-line-requires : tie.Need-run-line-requires Inv-loop μ-loop
 run-line-requires c κs = search needs
 
--- src/main.rt:116:14
 add-at : tie.Need-add-at Inv-loop μ-loop
 add-at c = search needs
 
--- src/main.rt:113:5
 loop-less : tie.Need-loop-less Inv-loop μ-loop
 loop-less c = search needs
 
--- src/main.rt:113:5
 loop-again : tie.Need-loop-again Inv-loop μ-loop
 loop-again c = search needs
 
--- src/main.rt:111:1
 returns : tie.Need-returns Inv-loop μ-loop
 returns c = search needs
 

@@ -4,8 +4,6 @@ use Rattle.utf8.specs.Classes.{classOf}
 use Rattle.utf8.proofs.Rules.{listed}
 use Rattle.utf8.proofs.class_of.Statement.{statement}
 use Rattle.utf8.proofs.class_of.Tie as tie
-use Rattle.utf8.proofs.class_of.Reads as reads
-use Rattle.utf8.proofs.class_of.Lts as lts
 
 array-read-result : tie.Need-array-read-result
 array-read-result c = search needs

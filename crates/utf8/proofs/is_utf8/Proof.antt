@@ -1,7 +1,7 @@
 -- `utf8::utf8` meets its contract. Assumes nothing.
 use borrow.Author.Needs.{needs}
 use mathlib.Core.Path.{_≡_, refl, sym, _∙_}
-use Prim.Native.Nat.{ℕ, _≤_, _<_, _-_}
+use Prim.Native.Nat.{_<_, _-_}
 use native.Mathlib.Omega.{arith}
 use lib.ListN.{length, drop}
 use denote.Ref.{now}
@@ -10,9 +10,6 @@ use Rattle.utf8.specs.Classes.{due as dueOf}
 use Rattle.utf8.proofs.Turns.{turn-bad, turn-go, turn-done}
 use Rattle.utf8.proofs.is_utf8.Statement.{statement}
 use Rattle.utf8.proofs.is_utf8.Tie as tie
-use Rattle.utf8.proofs.is_utf8.Reads as reads
-use Rattle.utf8.proofs.is_utf8.Lts as lts
-use Rattle.utf8.proofs.next_due.Reads as next-due-reads
 
 abbrev Inv-loop : tie.InvT-loop
 Inv-loop s due₀ i₀ due i = (octets (drop i s) (dueOf due) ≡ isUtf8 s) × (due < 8)

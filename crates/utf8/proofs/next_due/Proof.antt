@@ -1,13 +1,9 @@
 -- `utf8::next_due` meets its contract: the rule of `STEPS` over the classes, computed once. Assumes nothing.
 use borrow.Author.Needs.{needs}
-use mathlib.Core.Path.{_≡_}
 use native.Mathlib.Omega.{arith}
 use Rattle.utf8.proofs.Turns.{class-below, next-rule, next-small}
 use Rattle.utf8.proofs.next_due.Statement.{statement}
 use Rattle.utf8.proofs.next_due.Tie as tie
-use Rattle.utf8.proofs.next_due.Reads as reads
-use Rattle.utf8.proofs.next_due.Lts as lts
-use Rattle.utf8.proofs.class_of.Reads as class-of-reads
 
 mul-entry : tie.Need-mul-entry
 mul-entry c = search needs

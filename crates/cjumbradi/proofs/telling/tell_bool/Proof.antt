@@ -4,23 +4,16 @@ use Rattle.cjumbradi.specs.Calls.{ofBool}
 use Rattle.cjumbradi.proofs.Tellings.{told-arm}
 use Rattle.cjumbradi.proofs.telling.tell_bool.Statement.{statement}
 use Rattle.cjumbradi.proofs.telling.tell_bool.Tie as tie
-use Rattle.cjumbradi.proofs.telling.tell_bool.Reads as reads
-use Rattle.cjumbradi.proofs.telling.tell_bool.Lts as lts
-use Rattle.cjumbradi.proofs.telling.tell_found.Reads as tell-found-reads
 
--- src/telling.rt:58:9
 tell-found-requires : tie.Need-tell-found-requires
 tell-found-requires c κs = search needs
 
--- src/telling.rt:58:9
 returns : tie.Need-returns
 returns c = search (needs, told-arm ofBool)
 
--- src/telling.rt:60:5
 tell-found-requires-2 : tie.Need-tell-found-requires-2
 tell-found-requires-2 c κs = search needs
 
--- src/telling.rt:54:1
 returns-2 : tie.Need-returns-2
 returns-2 c = search (needs, told-arm ofBool)
 

@@ -4,79 +4,58 @@ use Rattle.cjumbradi.specs.Calls.{ofKind}
 use Rattle.cjumbradi.proofs.Tellings.{told-arm}
 use Rattle.cjumbradi.proofs.telling.tell_kind.Statement.{statement}
 use Rattle.cjumbradi.proofs.telling.tell_kind.Tie as tie
-use Rattle.cjumbradi.proofs.telling.tell_kind.Reads as reads
-use Rattle.cjumbradi.proofs.telling.tell_kind.Lts as lts
-use Rattle.cjumbradi.proofs.telling.tell_found.Reads as tell-found-reads
 
--- src/telling.rt:67:37
 enum-told : tie.Need-enum-told
 enum-told c = search needs
 
--- src/telling.rt:67:23
 tell-found-requires : tie.Need-tell-found-requires
 tell-found-requires c κs = search needs
 
--- src/telling.rt:68:39
 enum-told-2 : tie.Need-enum-told-2
 enum-told-2 c = search needs
 
--- src/telling.rt:68:25
 tell-found-requires-2 : tie.Need-tell-found-requires-2
 tell-found-requires-2 c κs = search needs
 
--- src/telling.rt:69:41
 enum-told-3 : tie.Need-enum-told-3
 enum-told-3 c = search needs
 
--- src/telling.rt:69:27
 tell-found-requires-3 : tie.Need-tell-found-requires-3
 tell-found-requires-3 c κs = search needs
 
--- src/telling.rt:70:38
 enum-told-4 : tie.Need-enum-told-4
 enum-told-4 c = search needs
 
--- src/telling.rt:70:24
 tell-found-requires-4 : tie.Need-tell-found-requires-4
 tell-found-requires-4 c κs = search needs
 
--- src/telling.rt:71:47
 enum-told-5 : tie.Need-enum-told-5
 enum-told-5 c = search needs
 
--- src/telling.rt:71:33
 tell-found-requires-5 : tie.Need-tell-found-requires-5
 tell-found-requires-5 c κs = search needs
 
--- src/telling.rt:72:46
 enum-told-6 : tie.Need-enum-told-6
 enum-told-6 c = search needs
 
--- src/telling.rt:72:32
 tell-found-requires-6 : tie.Need-tell-found-requires-6
 tell-found-requires-6 c κs = search needs
 
--- src/telling.rt:63:1
 returns : tie.Need-returns
 returns c = search (needs, told-arm ofKind)
 
--- src/telling.rt:63:1
 returns-2 : tie.Need-returns-2
 returns-2 c = search (needs, told-arm ofKind)
 
--- src/telling.rt:63:1
 returns-3 : tie.Need-returns-3
 returns-3 c = search (needs, told-arm ofKind)
 
--- src/telling.rt:63:1
 returns-4 : tie.Need-returns-4
 returns-4 c = search (needs, told-arm ofKind)
 
--- src/telling.rt:63:1
 returns-5 : tie.Need-returns-5
 returns-5 c = search (needs, told-arm ofKind)
 
--- src/telling.rt:63:1
 returns-6 : tie.Need-returns-6
 returns-6 c = search (needs, told-arm ofKind)
 

@@ -4,20 +4,13 @@ use Rattle.cjumbradi.specs.Calls.{ofBool}
 use Rattle.cjumbradi.proofs.Tellings.{said}
 use Rattle.cjumbradi.proofs.texts.cjumbradi_is_limit_subscription.Statement.{statement}
 use Rattle.cjumbradi.proofs.texts.cjumbradi_is_limit_subscription.Tie as tie
-use Rattle.cjumbradi.proofs.texts.cjumbradi_is_limit_subscription.Reads as reads
-use Rattle.cjumbradi.proofs.texts.cjumbradi_is_limit_subscription.Lts as lts
-use Rattle.cjumbradi.proofs.telling.tell_bool.Reads as tell-bool-reads
-use Rattle.topic.proofs.is_limit_subscription.Reads as is-limit-subscription-reads
 
--- src/texts.rt:70:15
 is-limit-subscription-requires : tie.Need-is-limit-subscription-requires
 is-limit-subscription-requires c κs = search needs
 
--- src/texts.rt:70:5
 tell-bool-requires : tie.Need-tell-bool-requires
 tell-bool-requires c κs = search needs
 
--- src/texts.rt:66:1
 returns : tie.Need-returns
 returns c = search (needs, said ofBool)
 

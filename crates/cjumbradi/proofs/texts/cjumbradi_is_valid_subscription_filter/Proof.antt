@@ -6,20 +6,13 @@ use Rattle.cjumbradi.proofs.texts.cjumbradi_is_valid_subscription_filte
   statement,
 }
 use Rattle.cjumbradi.proofs.texts.cjumbradi_is_valid_subscription_filter.Tie as tie
-use Rattle.cjumbradi.proofs.texts.cjumbradi_is_valid_subscription_filter.Reads as reads
-use Rattle.cjumbradi.proofs.texts.cjumbradi_is_valid_subscription_filter.Lts as lts
-use Rattle.cjumbradi.proofs.telling.tell_checked.Reads as tell-checked-reads
-use Rattle.topic.proofs.is_valid_subscription_filter.Reads as is-valid-subscription-filter-reads
 
--- src/texts.rt:56:18
 is-valid-subscription-filter-requires : tie.Need-is-valid-subscription-filter-requires
 is-valid-subscription-filter-requires c κs = search needs
 
--- src/texts.rt:56:5
 tell-checked-requires : tie.Need-tell-checked-requires
 tell-checked-requires c κs = search needs
 
--- src/texts.rt:52:1
 returns : tie.Need-returns
 returns c = search (needs, said ofChecked)
 

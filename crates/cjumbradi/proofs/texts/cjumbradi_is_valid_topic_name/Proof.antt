@@ -4,20 +4,13 @@ use Rattle.cjumbradi.specs.Calls.{ofChecked}
 use Rattle.cjumbradi.proofs.Tellings.{said}
 use Rattle.cjumbradi.proofs.texts.cjumbradi_is_valid_topic_name.Statement.{statement}
 use Rattle.cjumbradi.proofs.texts.cjumbradi_is_valid_topic_name.Tie as tie
-use Rattle.cjumbradi.proofs.texts.cjumbradi_is_valid_topic_name.Reads as reads
-use Rattle.cjumbradi.proofs.texts.cjumbradi_is_valid_topic_name.Lts as lts
-use Rattle.cjumbradi.proofs.telling.tell_checked.Reads as tell-checked-reads
-use Rattle.topic.proofs.is_valid_topic_name.Reads as is-valid-topic-name-reads
 
--- src/texts.rt:42:18
 is-valid-topic-name-requires : tie.Need-is-valid-topic-name-requires
 is-valid-topic-name-requires c κs = search needs
 
--- src/texts.rt:42:5
 tell-checked-requires : tie.Need-tell-checked-requires
 tell-checked-requires c κs = search needs
 
--- src/texts.rt:38:1
 returns : tie.Need-returns
 returns c = search (needs, said ofChecked)
 

@@ -4,20 +4,13 @@ use Rattle.cjumbradi.specs.Calls.{ofKind}
 use Rattle.cjumbradi.proofs.Tellings.{said}
 use Rattle.cjumbradi.proofs.texts.cjumbradi_level_kind.Statement.{statement}
 use Rattle.cjumbradi.proofs.texts.cjumbradi_level_kind.Tie as tie
-use Rattle.cjumbradi.proofs.texts.cjumbradi_level_kind.Reads as reads
-use Rattle.cjumbradi.proofs.texts.cjumbradi_level_kind.Lts as lts
-use Rattle.cjumbradi.proofs.telling.tell_kind.Reads as tell-kind-reads
-use Rattle.topic.proofs.level_kind.Reads as level-kind-reads
 
--- src/texts.rt:25:15
 level-kind-requires : tie.Need-level-kind-requires
 level-kind-requires c κs = search needs
 
--- src/texts.rt:25:5
 tell-kind-requires : tie.Need-tell-kind-requires
 tell-kind-requires c κs = search needs
 
--- src/texts.rt:21:1
 returns : tie.Need-returns
 returns c = search (needs, said ofKind)
 

@@ -4,20 +4,13 @@ use Rattle.cjumbradi.specs.Calls.{ofParsed}
 use Rattle.cjumbradi.proofs.Tellings.{said}
 use Rattle.cjumbradi.proofs.texts.cjumbradi_parse.Statement.{statement}
 use Rattle.cjumbradi.proofs.texts.cjumbradi_parse.Tie as tie
-use Rattle.cjumbradi.proofs.texts.cjumbradi_parse.Reads as reads
-use Rattle.cjumbradi.proofs.texts.cjumbradi_parse.Lts as lts
-use Rattle.cjumbradi.proofs.telling.tell_parsed.Reads as tell-parsed-reads
-use Rattle.topic.proofs.parse.Reads as parse-reads
 
--- src/texts.rt:18:17
 parse-requires : tie.Need-parse-requires
 parse-requires c κs = search needs
 
--- src/texts.rt:18:5
 tell-parsed-requires : tie.Need-tell-parsed-requires
 tell-parsed-requires c κs = search needs
 
--- src/texts.rt:14:1
 returns : tie.Need-returns
 returns c = search (needs, said ofParsed)
 

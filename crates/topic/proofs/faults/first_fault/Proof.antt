@@ -9,7 +9,8 @@ use denote.Ref.{now}
 use Rattle.level.specs.Levels.{split, startOf}
 use Rattle.level.specs.Places.{endOf}
 use Rattle.level.proofs.Split.{end-within, start-step}
-use Rattle.topic.specs.Rules.{faulty, index}
+use Rattle.topic.specs.Rules.{index}
+use Rattle.topic.specs.Faults.{faulty}
 use Rattle.topic.proofs.Turns.{seen}
 use Rattle.topic.proofs.RuleLaws.{fault-here, fault-next, fault-none}
 use Rattle.topic.proofs.faults.first_fault.Statement.{statement}
@@ -17,7 +18,7 @@ use Rattle.topic.proofs.faults.first_fault.Tie as tie
 
 abbrev Inv-loop : tie.InvT-loop
 Inv-loop text fault at₀ k₀ at k =
-    (at ≡ startOf text k) × (index fault (split text) ≡ k + index fault (drop k (split text))) × (k ≤ at)
+    (at ≡ startOf text k) × (index (faulty fault) (split text) ≡ k + index (faulty fault) (drop k (split text))) × (k ≤ at)
 
 abbrev μ-loop : tie.MeasureT-loop
 μ-loop text fault at₀ k₀ at k = length text + 1 - at
@@ -48,7 +49,7 @@ returns c =
     let n = p .before .before .before .before .args .fault in
     omega (
       arith,
-      fault-here n (s p) (l .k) (l .inv .0) (p .before .loop-test .taken)
+      fault-here (faulty n) (s p) (l .k) (l .inv .0) (p .before .loop-test .taken)
           (seen (faulty n) (p .part-at .ensures) (c .before .has-fault .ensures) (c .if1 .taken)),
     )
 
@@ -72,7 +73,7 @@ loop-again c =
       start-step (s p) (l .k) (l .inv .0) (p .before .loop-test .taken) (ends p),
       omega (
         arith,
-        fault-next n (s p) (l .k) (l .inv .0) (p .before .loop-test .taken)
+        fault-next (faulty n) (s p) (l .k) (l .inv .0) (p .before .loop-test .taken)
             (seen (faulty n) (p .part-at .ensures) (c .before .has-fault .ensures) (c .if1 .left)),
       ),
       omega arith,
@@ -82,7 +83,7 @@ returns-2 : tie.Need-returns-2 Inv-loop μ-loop
 returns-2 c =
     let l = c .before .loop in
     let a = c .before .before .before .args in
-    omega (arith, fault-none (a .fault) (now (a .text)) (l .k) (l .inv .0) (c .loop-test .left))
+    omega (arith, fault-none (faulty (a .fault)) (now (a .text)) (l .k) (l .inv .0) (c .loop-test .left))
 
 pub first-fault-spec : {M : Type 1} → statement M
 first-fault-spec =

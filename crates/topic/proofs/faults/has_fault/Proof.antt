@@ -2,32 +2,22 @@
 use borrow.Author.Needs.{needs}
 use Rattle.topic.proofs.faults.has_fault.Statement.{statement}
 use Rattle.topic.proofs.faults.has_fault.Tie as tie
-use Rattle.topic.proofs.faults.has_fault.Reads as reads
-use Rattle.topic.proofs.faults.has_fault.Lts as lts
-use Rattle.level.proofs.is_bad.Reads as is-bad-reads
-use Rattle.level.proofs.is_only.Reads as is-only-reads
 
--- src/faults.rt:15:23
 enum-told : tie.Need-enum-told
 enum-told c = search needs
 
--- src/faults.rt:15:23
 is-bad-requires : tie.Need-is-bad-requires
 is-bad-requires c κs = search needs
 
--- src/faults.rt:16:24
 enum-told-2 : tie.Need-enum-told-2
 enum-told-2 c = search needs
 
--- src/faults.rt:16:24
 is-only-requires : tie.Need-is-only-requires
 is-only-requires c κs = search needs
 
--- src/faults.rt:11:1
 returns : tie.Need-returns
 returns c = rw (c .before .enum-told .given .1) (c .is-bad .ensures)
 
--- src/faults.rt:11:1
 returns-2 : tie.Need-returns-2
 returns-2 c = rw (c .before .enum-told2 .given .1) (c .is-only .ensures)
 

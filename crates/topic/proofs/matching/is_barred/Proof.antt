@@ -6,32 +6,22 @@ use Rattle.level.specs.Kinds.{dollar}
 use Rattle.topic.proofs.Turns.{lead-dollar-at, seen}
 use Rattle.topic.proofs.matching.is_barred.Statement.{statement}
 use Rattle.topic.proofs.matching.is_barred.Tie as tie
-use Rattle.topic.proofs.matching.is_barred.Reads as reads
-use Rattle.topic.proofs.matching.is_barred.Lts as lts
-use Rattle.level.proofs.is_metadata.Reads as is-metadata-reads
-use Rattle.level.proofs.part_at.Reads as part-at-reads
-use Rattle.topic.proofs.matching.leads_wild.Reads as leads-wild-reads
 
--- src/matching.rt:62:8
 leads-wild-requires : tie.Need-leads-wild-requires
 leads-wild-requires c κs = search needs
 
--- src/matching.rt:63:35
 part-at-requires : tie.Need-part-at-requires
 part-at-requires c κs = search needs
 
--- src/matching.rt:63:9
 is-metadata-requires : tie.Need-is-metadata-requires
 is-metadata-requires c κs = search needs
 
--- src/matching.rt:63:9
 returns : tie.Need-returns
 returns c =
     let e = c .before .before in
     rw (sym (e .before .leads-wild .ensures) ∙ e .if1 .taken, lead-dollar-at (now (e .before .before .before .before .args .name)))
     (sym (seen dollar (c .before .part-at .ensures) (c .is-metadata .ensures) refl))
 
--- src/matching.rt:59:1
 returns-2 : tie.Need-returns-2
 returns-2 c = rw (sym (c .before .leads-wild .ensures) ∙ c .if1 .left)
 

@@ -6,30 +6,21 @@ use Rattle.level.specs.Kinds.{isOnly}
 use Rattle.topic.proofs.Turns.{lead-wild-at, seen}
 use Rattle.topic.proofs.matching.leads_wild.Statement.{statement}
 use Rattle.topic.proofs.matching.leads_wild.Tie as tie
-use Rattle.topic.proofs.matching.leads_wild.Reads as reads
-use Rattle.topic.proofs.matching.leads_wild.Lts as lts
-use Rattle.level.proofs.is_only.Reads as is-only-reads
-use Rattle.level.proofs.part_at.Reads as part-at-reads
 
--- src/matching.rt:51:9
 part-at-requires : tie.Need-part-at-requires
 part-at-requires c κs = search needs
 
--- src/matching.rt:52:8
 is-only-requires : tie.Need-is-only-requires
 is-only-requires c κs = search needs
 
--- src/matching.rt:53:9
 returns : tie.Need-returns
 returns c =
     let p = c .before .before in
     rw (lead-wild-at (now (p .before .before .args .filter)), seen (isOnly 43) (p .part-at .ensures) (c .before .is-only .ensures) (c .if1 .taken))
 
--- src/matching.rt:55:5
 is-only-requires-2 : tie.Need-is-only-requires-2
 is-only-requires-2 c κs = search needs
 
--- src/matching.rt:48:1
 returns-2 : tie.Need-returns-2
 returns-2 c =
     let e = c .before in

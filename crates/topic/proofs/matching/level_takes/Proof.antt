@@ -3,24 +3,16 @@ use borrow.Author.Needs.{needs}
 use mathlib.Core.Path.{sym, _∙_}
 use Rattle.topic.proofs.matching.level_takes.Statement.{statement}
 use Rattle.topic.proofs.matching.level_takes.Tie as tie
-use Rattle.topic.proofs.matching.level_takes.Reads as reads
-use Rattle.topic.proofs.matching.level_takes.Lts as lts
-use Rattle.level.proofs.is_only.Reads as is-only-reads
-use Rattle.level.proofs.same_bytes.Reads as same-bytes-reads
 
--- src/matching.rt:16:8
 is-only-requires : tie.Need-is-only-requires
 is-only-requires c κs = search needs
 
--- src/matching.rt:17:9
 returns : tie.Need-returns
 returns c = simp (sym (c .before .is-only .ensures) ∙ c .if1 .taken)
 
--- src/matching.rt:19:5
 same-bytes-requires : tie.Need-same-bytes-requires
 same-bytes-requires c κs = search needs
 
--- src/matching.rt:13:1
 returns-2 : tie.Need-returns-2
 returns-2 c = simp (sym (c .before .before .is-only .ensures) ∙ c .before .if1 .left) (c .same-bytes .ensures)
 

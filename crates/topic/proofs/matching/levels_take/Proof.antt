@@ -1,6 +1,6 @@
 -- `topic::matching::levels_take` meets its contract: each turn takes a level of both. Assumes nothing.
 use borrow.Author.Needs.{needs}
-use mathlib.Core.Path.{_≡_, refl, sym, _∙_}
+use mathlib.Core.Path.{_≡_, refl}
 use Prim.Native.Nat.{_≤_, _+_, _-_}
 use native.Mathlib.Omega.{arith}
 use lib.ListN.{length}
@@ -11,11 +11,6 @@ use Rattle.topic.specs.Match.{takes}
 use Rattle.topic.proofs.Turns.{turn-short, turn-hash, turn-other, turn-takes, turn-end, next-fits}
 use Rattle.topic.proofs.matching.levels_take.Statement.{statement}
 use Rattle.topic.proofs.matching.levels_take.Tie as tie
-use Rattle.topic.proofs.matching.levels_take.Reads as reads
-use Rattle.topic.proofs.matching.levels_take.Lts as lts
-use Rattle.level.proofs.is_only.Reads as is-only-reads
-use Rattle.level.proofs.part_at.Reads as part-at-reads
-use Rattle.topic.proofs.matching.level_takes.Reads as level-takes-reads
 
 abbrev Inv-loop : tie.InvT-loop
 Inv-loop filter name i₀ j₀ i j =
@@ -24,67 +19,51 @@ Inv-loop filter name i₀ j₀ i j =
 abbrev μ-loop : tie.MeasureT-loop
 μ-loop filter name i₀ j₀ i j = length filter + 1 - i
 
--- src/matching.rt:28:5
 loop-holds : tie.Need-loop-holds Inv-loop μ-loop
 loop-holds c = (refl, omega arith, omega arith)
 
--- src/matching.rt:29:13
 part-at-requires : tie.Need-part-at-requires Inv-loop μ-loop
 part-at-requires c κs = search needs
 
--- src/matching.rt:31:13
 is-only-requires : tie.Need-is-only-requires Inv-loop μ-loop
 is-only-requires c κs = search needs
 
--- src/matching.rt:31:13
 returns : tie.Need-returns Inv-loop μ-loop
 returns c = search (needs, turn-short)
 
--- src/matching.rt:33:12
 is-only-requires-2 : tie.Need-is-only-requires-2 Inv-loop μ-loop
 is-only-requires-2 c κs = search needs
 
--- src/matching.rt:34:13
 returns-2 : tie.Need-returns-2 Inv-loop μ-loop
 returns-2 c = search (needs, turn-hash)
 
--- src/matching.rt:36:13
 part-at-requires-2 : tie.Need-part-at-requires-2 Inv-loop μ-loop
 part-at-requires-2 c κs = search needs
 
--- src/matching.rt:37:12
 level-takes-requires : tie.Need-level-takes-requires Inv-loop μ-loop
 level-takes-requires c κs = search needs
 
--- src/matching.rt:38:17
 add-i : tie.Need-add-i Inv-loop μ-loop
 add-i c = search (needs, part-fits)
 
--- src/matching.rt:38:17
 add-i-2 : tie.Need-add-i-2 Inv-loop μ-loop
 add-i-2 c = search (needs, part-fits)
 
--- src/matching.rt:39:17
 add-j : tie.Need-add-j Inv-loop μ-loop
 add-j c = search (needs, part-fits)
 
--- src/matching.rt:39:17
 add-j-2 : tie.Need-add-j-2 Inv-loop μ-loop
 add-j-2 c = search (needs, part-fits)
 
--- src/matching.rt:28:5
 loop-less : tie.Need-loop-less Inv-loop μ-loop
 loop-less c = search (needs, part-fits)
 
--- src/matching.rt:28:5
 loop-again : tie.Need-loop-again Inv-loop μ-loop
 loop-again c = search (needs, turn-takes, next-fits)
 
--- src/matching.rt:41:13
 returns-3 : tie.Need-returns-3 Inv-loop μ-loop
 returns-3 c = search (needs, turn-other)
 
--- src/matching.rt:23:1
 returns-4 : tie.Need-returns-4 Inv-loop μ-loop
 returns-4 c = search (needs, turn-end)
 

@@ -5,23 +5,16 @@ use lib.ListN.{length-take}
 use Rattle.topic.proofs.RuleLaws.{starts-short}
 use Rattle.topic.proofs.prefixes.starts_with.Statement.{statement}
 use Rattle.topic.proofs.prefixes.starts_with.Tie as tie
-use Rattle.topic.proofs.prefixes.starts_with.Reads as reads
-use Rattle.topic.proofs.prefixes.starts_with.Lts as lts
-use Rattle.level.proofs.same_bytes.Reads as same-bytes-reads
 
--- src/prefixes.rt:11:9
 returns : tie.Need-returns
 returns c = search (needs, starts-short)
 
--- src/prefixes.rt:13:31
 slice-aggregate-same-bytes : tie.Need-slice-aggregate-same-bytes
 slice-aggregate-same-bytes c = simp length-take (omega arith)
 
--- src/prefixes.rt:13:5
 same-bytes-requires : tie.Need-same-bytes-requires
 same-bytes-requires c κs = search needs
 
--- src/prefixes.rt:6:1
 returns-2 : tie.Need-returns-2
 returns-2 c = search needs
 

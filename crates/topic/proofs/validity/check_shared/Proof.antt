@@ -3,53 +3,37 @@ use borrow.Author.Needs.{needs}
 use Rattle.topic.proofs.RuleLaws.{shared-none, shared-refused, shared-group, shared-fine}
 use Rattle.topic.proofs.validity.check_shared.Statement.{statement}
 use Rattle.topic.proofs.validity.check_shared.Tie as tie
-use Rattle.topic.proofs.validity.check_shared.Reads as reads
-use Rattle.topic.proofs.validity.check_shared.Lts as lts
-use Rattle.level.proofs.has_wildcard.Reads as has-wildcard-reads
-use Rattle.level.proofs.part_at.Reads as part-at-reads
-use Rattle.level.proofs.text_from.Reads as text-from-reads
-use Rattle.topic.proofs.faults.check_levels.Reads as check-levels-reads
 
--- src/validity.rt:61:9
 part-at-requires : tie.Need-part-at-requires
 part-at-requires c κs = search needs
 
--- src/validity.rt:62:40
 add-text-from : tie.Need-add-text-from
 add-text-from c = search needs
 
--- src/validity.rt:62:9
 text-from-requires : tie.Need-text-from-requires
 text-from-requires c κs = search needs
 
--- src/validity.rt:64:9
 returns : tie.Need-returns
 returns c = search (needs, shared-none)
 
--- src/validity.rt:66:9
 check-levels-requires : tie.Need-check-levels-requires
 check-levels-requires c κs = search needs
 
 enum-told : tie.Need-enum-told
 enum-told c = search needs
 
--- src/validity.rt:68:9
 enum-told-2 : tie.Need-enum-told-2
 enum-told-2 c = search needs
 
--- src/validity.rt:68:9
 returns-2 : tie.Need-returns-2
 returns-2 c = search (needs, shared-refused)
 
--- src/validity.rt:70:8
 has-wildcard-requires : tie.Need-has-wildcard-requires
 has-wildcard-requires c κs = search needs
 
--- src/validity.rt:71:9
 returns-3 : tie.Need-returns-3
 returns-3 c = search (needs, shared-group)
 
--- src/validity.rt:58:1
 returns-4 : tie.Need-returns-4
 returns-4 c = search (needs, shared-fine)
 

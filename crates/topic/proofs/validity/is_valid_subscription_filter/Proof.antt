@@ -5,45 +5,31 @@ use Rattle.topic.specs.Rules.{textRules, plainOrShared}
 use Rattle.topic.proofs.RuleLaws.{rules-refused, rules-accepted, is-shared, is-plain}
 use Rattle.topic.proofs.validity.is_valid_subscription_filter.Statement.{statement}
 use Rattle.topic.proofs.validity.is_valid_subscription_filter.Tie as tie
-use Rattle.topic.proofs.validity.is_valid_subscription_filter.Reads as reads
-use Rattle.topic.proofs.validity.is_valid_subscription_filter.Lts as lts
-use Rattle.level.proofs.text_from.Reads as text-from-reads
-use Rattle.topic.proofs.faults.check_levels.Reads as check-levels-reads
-use Rattle.topic.proofs.prefixes.is_shared_subscription.Reads as is-shared-subscription-reads
-use Rattle.topic.proofs.validity.check_shared.Reads as check-shared-reads
-use Rattle.topic.proofs.validity.check_text.Reads as check-text-reads
 
--- src/validity.rt:80:9
 check-text-requires : tie.Need-check-text-requires
 check-text-requires c κs = search needs
 
 enum-told : tie.Need-enum-told
 enum-told c = search needs
 
--- src/validity.rt:82:9
 enum-told-2 : tie.Need-enum-told-2
 enum-told-2 c = search needs
 
--- src/validity.rt:82:9
 returns : tie.Need-returns
 returns c =
     let t = c .before .before in
     let s = now (t .before .before .args .text) in
     rules-refused (textRules s) (plainOrShared s) (t .check-text .ensures) (c .enum-told2 .given .1)
 
--- src/validity.rt:84:8
 is-shared-subscription-requires : tie.Need-is-shared-subscription-requires
 is-shared-subscription-requires c κs = search needs
 
--- src/validity.rt:85:29
 text-from-requires : tie.Need-text-from-requires
 text-from-requires c κs = search needs
 
--- src/validity.rt:85:9
 check-shared-requires : tie.Need-check-shared-requires
 check-shared-requires c κs = search needs
 
--- src/validity.rt:85:9
 returns-2 : tie.Need-returns-2
 returns-2 c =
     let b = c .before .before in
@@ -53,11 +39,9 @@ returns-2 c =
     rules-accepted (textRules s) (plainOrShared s) (t .check-text .ensures) (a .enum-told .given .1)
     (is-shared s (b .before .is-shared-subscription .ensures) (b .if1 .taken) (c .before .text-from .ensures) (c .check-shared .ensures))
 
--- src/validity.rt:87:5
 check-levels-requires : tie.Need-check-levels-requires
 check-levels-requires c κs = search needs
 
--- src/validity.rt:77:1
 returns-3 : tie.Need-returns-3
 returns-3 c =
     let b = c .before in

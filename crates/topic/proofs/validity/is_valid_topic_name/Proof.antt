@@ -1,6 +1,6 @@
 -- `topic::validity::is_valid_topic_name` meets its contract. Assumes nothing.
 use borrow.Author.Needs.{needs}
-use mathlib.Core.Path.{refl, sym, _∙_}
+use mathlib.Core.Path.{sym, _∙_}
 use mathlib.Core.List.{[], _∷_}
 use denote.Ref.{now}
 use Rattle.level.specs.Kinds.{wild}
@@ -9,34 +9,25 @@ use Rattle.topic.specs.Rules.{textRules, _gives_}
 use Rattle.topic.proofs.RuleLaws.{rules-refused, rules-accepted}
 use Rattle.topic.proofs.validity.is_valid_topic_name.Statement.{statement}
 use Rattle.topic.proofs.validity.is_valid_topic_name.Tie as tie
-use Rattle.topic.proofs.validity.is_valid_topic_name.Reads as reads
-use Rattle.topic.proofs.validity.is_valid_topic_name.Lts as lts
-use Rattle.level.proofs.has_wildcard.Reads as has-wildcard-reads
-use Rattle.topic.proofs.validity.check_text.Reads as check-text-reads
 
--- src/validity.rt:36:9
 check-text-requires : tie.Need-check-text-requires
 check-text-requires c κs = search needs
 
 enum-told : tie.Need-enum-told
 enum-told c = search needs
 
--- src/validity.rt:38:9
 enum-told-2 : tie.Need-enum-told-2
 enum-told-2 c = search needs
 
--- src/validity.rt:38:9
 returns : tie.Need-returns
 returns c =
     let t = c .before .before in
     let s = now (t .before .before .args .text) in
     rules-refused (textRules s) ((wild s gives HasWildcard) ∷ []) (t .check-text .ensures) (c .enum-told2 .given .1)
 
--- src/validity.rt:40:8
 has-wildcard-requires : tie.Need-has-wildcard-requires
 has-wildcard-requires c κs = search needs
 
--- src/validity.rt:41:9
 returns-2 : tie.Need-returns-2
 returns-2 c =
     let a = c .before .before in
@@ -44,7 +35,6 @@ returns-2 c =
     let s = now (t .before .before .args .text) in
     rules-accepted (textRules s) ((wild s gives HasWildcard) ∷ []) (t .check-text .ensures) (a .enum-told .given .1) (rw (sym (c .before .has-wildcard .ensures) ∙ c .if1 .taken))
 
--- src/validity.rt:33:1
 returns-3 : tie.Need-returns-3
 returns-3 c =
     let a = c .before .before in
