@@ -1,0 +1,71 @@
+-- `lent::moves::copy_in` meets its contract. Assumes nothing.
+use borrow.Author.Needs.{needs}
+use Prim.Native.Nat.{_+_, _-_, _≤_}
+use mathlib.Core.Path.{_≡_}
+use lib.ListN.{length}
+use Rattle.lent.specs.Parts.{part, patch}
+use Rattle.lent.proofs.Anywhere.{copy-short, copy-far, copied}
+use Rattle.lent.proofs.Turns.{copied-none, copy-step, copy-done}
+use Rattle.lent.proofs.moves.copy_in.Statement.{statement}
+use Rattle.lent.proofs.moves.copy_in.Tie as tie
+
+abbrev Inv-loop : tie.InvT-loop
+Inv-loop s₀ at bytes i₀ s i = (i ≤ length bytes) × (at + length bytes ≤ length s₀) × (s ≡ patch at (part 0 i bytes) s₀) × (length s ≡ length s₀)
+
+abbrev μ-loop : tie.MeasureT-loop
+μ-loop s₀ at bytes i₀ s i = length bytes - i
+
+returns : tie.Need-returns Inv-loop μ-loop
+returns c = search (needs, copy-short)
+
+sub-if2 : tie.Need-sub-if2 Inv-loop μ-loop
+sub-if2 c = search needs
+
+returns-2 : tie.Need-returns-2 Inv-loop μ-loop
+returns-2 c = search (needs, copy-far)
+
+loop-holds : tie.Need-loop-holds Inv-loop μ-loop
+loop-holds c = search (needs, copied-none)
+
+shared-slice-read-s : tie.Need-shared-slice-read-s Inv-loop μ-loop
+shared-slice-read-s c = search needs
+
+add-s : tie.Need-add-s Inv-loop μ-loop
+add-s c = search needs
+
+slice-write-s : tie.Need-slice-write-s Inv-loop μ-loop
+slice-write-s c = search needs
+
+add-i : tie.Need-add-i Inv-loop μ-loop
+add-i c = search needs
+
+loop-less : tie.Need-loop-less Inv-loop μ-loop
+loop-less c = search needs
+
+loop-again : tie.Need-loop-again Inv-loop μ-loop
+loop-again c = search (needs, copy-step)
+
+same-length : tie.Need-same-length Inv-loop μ-loop
+same-length c = search needs
+
+returns-3 : tie.Need-returns-3 Inv-loop μ-loop
+returns-3 c = search (needs, copied, copy-done)
+
+pub copy-in-spec : {M : Type 1} → statement M
+copy-in-spec =
+    tie.close
+    (tie.spec
+    Inv-loop
+    μ-loop
+    returns
+    sub-if2
+    returns-2
+    loop-holds
+    shared-slice-read-s
+    add-s
+    slice-write-s
+    add-i
+    loop-less
+    loop-again
+    same-length
+    returns-3)
