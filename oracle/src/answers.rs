@@ -48,10 +48,8 @@ pub enum Kind {
 pub trait TopicCalls {
     /// The number of levels; refused with 3, 6 or 7.
     fn parse(&self, text: &[u8]) -> Answer;
-    /// The number of the `Kind` of level k.
-    fn level_kind(&self, text: &[u8], k: u64) -> Answer;
-    /// Where level k stands in the text.
-    fn level_part(&self, text: &[u8], k: u64) -> Answer<Part>;
+    /// The kind of level k and where it stands in the text: two calls of the library.
+    fn level(&self, text: &[u8], k: u64) -> LevelAnswers;
     /// The three validity tests answer 0 for a text that they accept.
     fn is_valid_topic_name(&self, text: &[u8]) -> Answer;
     fn is_valid_topic_filter(&self, text: &[u8]) -> Answer;
@@ -64,16 +62,14 @@ pub trait TopicCalls {
     fn matches(&self, filter: &[u8], name: &[u8]) -> Answer;
 }
 
-/// What was answered for one level.
-#[derive(Clone, Debug, PartialEq)]
+/// What is answered for level k: the number of its `Kind`, and its part.
 pub struct LevelAnswers {
     pub k: u64,
     pub kind: Answer,
     pub part: Answer<Part>,
 }
 
-/// What was answered for one text, by every call that takes one text.
-#[derive(Clone, Debug, PartialEq)]
+/// What is answered for one text, by every call that takes one text.
 pub struct TextAnswers {
     pub parse: Answer,
     pub name: Answer,
@@ -88,11 +84,6 @@ pub struct TextAnswers {
 impl TextAnswers {
     /// Asks every call about the text, and the level calls about each level of `asked`.
     pub fn of(calls: &dyn TopicCalls, text: &[u8], asked: &[u64]) -> Self {
-        let level = |&k: &u64| LevelAnswers {
-            k,
-            kind: calls.level_kind(text, k),
-            part: calls.level_part(text, k),
-        };
         TextAnswers {
             parse: calls.parse(text),
             name: calls.is_valid_topic_name(text),
@@ -101,7 +92,7 @@ impl TextAnswers {
             shared: calls.is_shared_subscription(text),
             limit: calls.is_limit_subscription(text),
             exclusive: calls.is_exclusive_subscription(text),
-            levels: asked.iter().map(level).collect(),
+            levels: asked.iter().map(|k| calls.level(text, *k)).collect(),
         }
     }
 

@@ -1,6 +1,6 @@
 //! The library under test, through its C interface.
 
-use crate::answers::{Answer, Part, Refusal, TopicCalls};
+use crate::answers::{Answer, LevelAnswers, Part, Refusal, TopicCalls};
 
 /// A call with one text and one number handed back.
 type TextCall = unsafe extern "C" fn(*const u8, usize, *mut u64) -> u64;
@@ -62,20 +62,17 @@ impl TopicCalls for Library {
         ask(cjumbradi_parse, text)
     }
 
-    fn level_kind(&self, text: &[u8], k: u64) -> Answer {
-        let mut kind = UNWRITTEN;
-        // SAFETY: as in `ask`.
-        let number = unsafe { cjumbradi_level_kind(text.as_ptr(), text.len(), k, &mut kind) };
-        answer(number, kind, kind)
-    }
-
-    fn level_part(&self, text: &[u8], k: u64) -> Answer<Part> {
-        let (mut start, mut length) = (UNWRITTEN, UNWRITTEN);
-        // SAFETY: as in `ask`; the two numbers are two variables.
-        let number = unsafe {
-            cjumbradi_level_part(text.as_ptr(), text.len(), k, &mut start, &mut length)
-        };
-        answer(number, Part { start, length }, start)
+    fn level(&self, text: &[u8], k: u64) -> LevelAnswers {
+        let (at, len) = (text.as_ptr(), text.len());
+        let (mut kind, mut start, mut length) = (UNWRITTEN, UNWRITTEN, UNWRITTEN);
+        // SAFETY: as in `ask`, with more numbers, each its own variable.
+        let of_kind = unsafe { cjumbradi_level_kind(at, len, k, &mut kind) };
+        let of_part = unsafe { cjumbradi_level_part(at, len, k, &mut start, &mut length) };
+        LevelAnswers {
+            k,
+            kind: answer(of_kind, kind, kind),
+            part: answer(of_part, Part { start, length }, start),
+        }
     }
 
     fn is_valid_topic_name(&self, text: &[u8]) -> Answer {

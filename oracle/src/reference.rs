@@ -7,7 +7,7 @@
 use std::ops::RangeInclusive;
 
 use crate::answers::number::*;
-use crate::answers::{Answer, Kind, Part, Refusal, TopicCalls};
+use crate::answers::{Answer, Kind, LevelAnswers, Part, Refusal, TopicCalls};
 use crate::mutation::Mutation::{self, *};
 
 /// The reference, honest where no mutation is named.
@@ -18,6 +18,9 @@ pub struct Reference {
 
 /// The reference that judges.
 pub const HONEST: Reference = Reference { mutation: None };
+
+/// RFC 3629 section 4, UTF8-tail: what stands behind the first byte of a character.
+const TAIL: RangeInclusive<u8> = 0x80..=0xBF;
 
 /// A fault of a text, or none.
 type Fault = Option<Refusal>;
@@ -38,42 +41,48 @@ impl Reference {
 
     /// RFC 3629 section 4: how many bytes a character has that begins with `lead`, and between
     /// which two its second byte stands. No character begins with any other byte.
-    fn character(&self, lead: u8) -> Option<(usize, RangeInclusive<u8>)> {
-        let tail = 0x80..=0xBF;
+    fn lead(&self, lead: u8) -> Option<(usize, RangeInclusive<u8>)> {
         match lead {
-            0x00..=0x7F => Some((1, tail)),
-            0xC0 | 0xC1 if self.broken(OverlongFormAccepted) => Some((2, tail)),
-            0xC2..=0xDF => Some((2, tail)),
+            0x00..=0x7F => Some((1, TAIL)),
+            0xC0 | 0xC1 if self.broken(OverlongFormAccepted(2)) => Some((2, TAIL)),
+            0xC2..=0xDF => Some((2, TAIL)),
+            0xE0 if self.broken(OverlongFormAccepted(3)) => Some((3, TAIL)),
             0xE0 => Some((3, 0xA0..=0xBF)),
-            0xED if self.broken(SurrogateAccepted) => Some((3, tail)),
+            0xED if self.broken(SurrogateAccepted) => Some((3, TAIL)),
             0xED => Some((3, 0x80..=0x9F)),
-            0xE1..=0xEC | 0xEE..=0xEF => Some((3, tail)),
+            0xE1..=0xEC | 0xEE..=0xEF => Some((3, TAIL)),
+            0xF0 if self.broken(OverlongFormAccepted(4)) => Some((4, TAIL)),
             0xF0 => Some((4, 0x90..=0xBF)),
-            0xF1..=0xF3 => Some((4, tail)),
-            0xF4 if self.broken(AboveLastCharacterAccepted) => Some((4, tail)),
+            0xF1..=0xF3 => Some((4, TAIL)),
+            0xF4 if self.broken(AboveLastCharacterAccepted) => Some((4, TAIL)),
             0xF4 => Some((4, 0x80..=0x8F)),
             _ => None,
         }
     }
 
+    /// How many bytes the first character of a text has. None where no character stands there.
+    fn first_character(&self, text: &[u8]) -> Option<usize> {
+        let (length, second) = self.lead(*text.first()?)?;
+        let character = match self.mutation {
+            Some(CutCharacterAccepted) => &text[..length.min(text.len())],
+            _ => text.get(..length)?,
+        };
+        let is_whole = match character {
+            [_, byte, tails @ ..] => {
+                second.contains(byte) && tails.iter().all(|tail| TAIL.contains(tail))
+            }
+            _ => true,
+        };
+        is_whole.then_some(character.len())
+    }
+
     /// RFC 3629 section 4, UTF8-octets: a text is characters one after another.
     fn is_utf8(&self, text: &[u8]) -> bool {
         let mut rest = text;
-        while let Some(&lead) = rest.first() {
-            let Some((length, second)) = self.character(lead) else {
-                return false;
-            };
-            let Some((character, after)) = rest.split_at_checked(length) else {
-                return self.broken(CutCharacterAccepted);
-            };
-            let is_tail = |byte| (0x80..=0xBF).contains(byte);
-            if length > 1 && !(second.contains(&character[1]) && character[2..].iter().all(is_tail))
-            {
-                return false;
-            }
-            rest = after;
+        while let Some(length) = self.first_character(rest) {
+            rest = &rest[length..];
         }
-        true
+        rest.is_empty()
     }
 
     /// 1 to 65,535 bytes (MQTT 1.5.4, 4.7.3).
@@ -118,16 +127,16 @@ impl Reference {
 
     /// 6 and 7, each with the first level that has the fault: a bad level, and a `#` that is not
     /// last.
-    fn level_faults(&self, text: &[u8]) -> [Fault; 2] {
-        let levels = self.levels(text);
+    fn level_faults(&self, levels: &[&[u8]]) -> [Fault; 2] {
         let before_last = &levels[..levels.len().saturating_sub(1)];
         let is_hash = |level: &&[u8]| *level == b"#" && !self.broken(HashInTheMiddleAccepted);
         [
-            self.level_fault(BAD_LEVEL, &levels, |level| self.kind(level).is_none()),
+            self.level_fault(BAD_LEVEL, levels, |level| self.kind(level).is_none()),
             self.level_fault(HASH_NOT_LAST, before_last, is_hash),
         ]
     }
 
+    /// The place of a faulty level is its number, from 0.
     fn level_fault(
         &self,
         number: u64,
@@ -146,7 +155,7 @@ impl Reference {
     }
 
     /// Document 01's order: of several faults the one with the least number is the refusal.
-    fn answer(&self, faults: impl IntoIterator<Item = Fault>, value: u64) -> Answer {
+    fn answer<T>(&self, faults: impl IntoIterator<Item = Fault>, value: T) -> Answer<T> {
         let faults: Vec<Refusal> = faults.into_iter().flatten().collect();
         match faults.iter().min_by_key(|fault| fault.number) {
             None => Ok(value),
@@ -178,40 +187,55 @@ impl Reference {
     }
 
     /// The test of a shared subscription (MQTT 5.0, 4.8.2): `rest` stands after `$share/`. The
-    /// group goes up to the next `/`, the inner filter begins after that.
+    /// group goes up to the next `/`, and the inner filter stands after that.
     fn shared_filter(&self, text: &[u8], rest: &[u8]) -> Answer {
         let end = rest.iter().position(|byte| *byte == b'/');
         let (group, inner) = rest.split_at(end.unwrap_or(rest.len()));
         let inner = inner.get(1..).filter(|inner| !inner.is_empty());
-        let mut level_faults = inner.map_or([None, None], |inner| self.level_faults(inner));
-        if self.broken(InnerCountedOverWholeText) {
-            level_faults
-                .iter_mut()
-                .flatten()
-                .for_each(|fault| fault.place += 2);
-        }
-        let group_is_bad = match self.mutation {
+        let no_inner = inner.is_none() && !self.broken(MissingInnerAccepted);
+        let bad_group = match self.mutation {
             Some(EmptyGroupRefused) if group.is_empty() => true,
             Some(WildcardInGroupAccepted) => false,
             _ => has_wildcard(group) || group.contains(&0),
         };
-        let no_inner = inner.is_none() && !self.broken(MissingInnerAccepted);
         let faults = self.wire_faults(text).into_iter();
-        let faults = faults.chain(level_faults);
-        let faults = faults.chain([fault(NO_INNER, no_inner), fault(BAD_GROUP, group_is_bad)]);
+        let faults = faults.chain(inner.map_or([None, None], |inner| self.inner_faults(inner)));
+        let faults = faults.chain([fault(NO_INNER, no_inner), fault(BAD_GROUP, bad_group)]);
         self.answer(faults, 0)
     }
 
+    /// 6 and 7 of an inner filter count its own levels.
+    fn inner_faults(&self, inner: &[u8]) -> [Fault; 2] {
+        let outer_levels = match self.mutation {
+            Some(InnerCountedOverWholeText) => 2,
+            _ => 0,
+        };
+        self.level_faults(&self.levels(inner)).map(|fault| {
+            fault.map(|Refusal { number, place }| Refusal {
+                number,
+                place: place + outer_levels,
+            })
+        })
+    }
+
+    /// The levels of a text that parsing accepts. It refuses with 3, 6 and 7 alone.
+    fn parsed<'t>(&self, text: &'t [u8]) -> Answer<Vec<&'t [u8]>> {
+        let levels = self.levels(text);
+        let not_utf8 = fault(NOT_UTF8, !self.is_utf8(text));
+        let faults = self.level_faults(&levels).into_iter().chain([not_utf8]);
+        self.answer(faults, levels)
+    }
+
     /// Level k and where it begins; none past the end, and none of a text that parsing refuses.
-    fn level<'t>(&self, text: &'t [u8], k: u64) -> Option<(u64, &'t [u8])> {
-        if self.parse(text).is_err() && !self.broken(RefusedTextHasLevels) {
-            return None;
-        }
+    fn level_at<'t>(&self, text: &'t [u8], k: u64) -> Option<(u64, &'t [u8])> {
+        let levels = match self.mutation {
+            Some(RefusedTextHasLevels) => self.levels(text),
+            _ => self.parsed(text).ok()?,
+        };
         let k = match self.mutation {
             Some(LevelNumberCutTo32Bits) => u64::from(k as u32),
             _ => k,
         };
-        let levels = self.levels(text);
         let k = usize::try_from(k).ok()?;
         let level = levels.get(k)?;
         let start: usize = levels[..k].iter().map(|before| before.len() + 1).sum();
@@ -274,24 +298,22 @@ impl Reference {
 
 impl TopicCalls for Reference {
     fn parse(&self, text: &[u8]) -> Answer {
-        let not_utf8 = fault(NOT_UTF8, !self.is_utf8(text));
-        let faults = self.level_faults(text).into_iter().chain([not_utf8]);
-        self.answer(faults, self.levels(text).len() as u64)
+        self.parsed(text).map(|levels| levels.len() as u64)
     }
 
-    fn level_kind(&self, text: &[u8], k: u64) -> Answer {
-        let kind = self.level(text, k).and_then(|(_, level)| self.kind(level));
-        Ok(kind.unwrap_or(Kind::None) as u64)
-    }
-
-    fn level_part(&self, text: &[u8], k: u64) -> Answer<Part> {
-        let nothing = match self.mutation {
-            Some(EmptyPartAtStart) => (0, &b""[..]),
-            _ => (text.len() as u64, &b""[..]),
-        };
-        let (start, level) = self.level(text, k).unwrap_or(nothing);
+    fn level(&self, text: &[u8], k: u64) -> LevelAnswers {
+        let level = self.level_at(text, k);
+        let kind = level.and_then(|(_, level)| self.kind(level));
+        let (start, level) = level.unwrap_or(match self.mutation {
+            Some(EmptyPartAtStart) => (0, b""),
+            _ => (text.len() as u64, b""),
+        });
         let length = level.len() as u64;
-        Ok(Part { start, length })
+        LevelAnswers {
+            k,
+            kind: Ok(kind.unwrap_or(Kind::None) as u64),
+            part: Ok(Part { start, length }),
+        }
     }
 
     fn is_valid_topic_name(&self, text: &[u8]) -> Answer {
@@ -302,7 +324,7 @@ impl TopicCalls for Reference {
 
     fn is_valid_topic_filter(&self, text: &[u8]) -> Answer {
         let faults = self.wire_faults(text).into_iter();
-        self.answer(faults.chain(self.level_faults(text)), 0)
+        self.answer(faults.chain(self.level_faults(&self.levels(text))), 0)
     }
 
     fn is_valid_subscription_filter(&self, text: &[u8]) -> Answer {

@@ -1,0 +1,66 @@
+//! The test of the harness itself: the reference answers the examples of document 01, an honest
+//! run finds nothing, and every mutation is noticed by each judge that has a say in it.
+
+use crate::answers::TopicCalls;
+use crate::compare::{Comparison, Difference, Judge};
+use crate::examples;
+use crate::inputs::Input;
+use crate::library::Library;
+use crate::mutation::{self, Mutation};
+use crate::reference::{Reference, HONEST};
+use crate::stages::{stages, QUICK};
+use crate::{judges, rust_judge, Totals};
+
+pub fn run(seed: u64) -> Totals {
+    let mut totals = Totals::default();
+    for (example, is_right) in examples::answered(&HONEST) {
+        totals.count((!is_right).then(|| format!("the reference is wrong about {example}")));
+    }
+    let noise = first_difference(&Library, &judges(), seed);
+    totals.count(noise.map(|(input, difference)| {
+        format!(
+            "an honest run differs, {}: {}",
+            input.in_full(),
+            difference.in_words()
+        )
+    }));
+    for (mutation, rust_has_a_say) in mutation::all() {
+        let mutated = Reference {
+            mutation: Some(mutation),
+        };
+        let noticed = first_difference(&Library, &[&mutated], seed);
+        totals.count(unnoticed(mutation, "reference", noticed));
+        if let Some(rust) = rust_judge().filter(|_| rust_has_a_say) {
+            let noticed = first_difference(&mutated, &[rust], seed);
+            totals.count(unnoticed(mutation, "Rust", noticed));
+        }
+    }
+    totals
+}
+
+/// Prints where the mutation was noticed; a complaint if it was not.
+fn unnoticed(mutation: Mutation, judge: &str, noticed: Noticed) -> Option<String> {
+    let Some((input, difference)) = noticed else {
+        return Some(format!("{mutation:?} is not noticed by the {judge}"));
+    };
+    println!(
+        "{mutation:?}: {} by the {judge}, {}",
+        difference.call,
+        input.quoted()
+    );
+    None
+}
+
+type Noticed = Option<(Input, Difference)>;
+
+/// The first difference of a small run.
+fn first_difference(candidate: &dyn TopicCalls, judges: &[&dyn Judge], seed: u64) -> Noticed {
+    let comparison = Comparison { candidate, judges };
+    let mut inputs = stages(&QUICK, seed)
+        .into_iter()
+        .flat_map(|stage| stage.inputs);
+    inputs.find_map(|input| {
+        let difference = comparison.difference(&input)?;
+        Some((input, difference))
+    })
+}
