@@ -1,7 +1,13 @@
 -- Laws of what a caller is told. Assumes nothing.
 use mathlib.Core.Path.{_≡_, refl, sym, ap, _∙_}
-use Prim.Native.Nat.{ℕ}
+use Prim.Native.Nat.{ℕ, _-_}
+use mathlib.Core.List.{List}
+use native.Mathlib.Omega.{arith}
+use lib.ListN.{length, drop}
 use Rattle.refusal.specs.Refusals.{Told, _at_}
+use Rattle.level.specs.Places.{first, endOf}
+use Rattle.topic.specs.Answers.{partAt, placeAt}
+use Rattle.topic.proofs.LevelLaws.{part-in-place}
 
 -- a number and a value that are those of what is to be told
 pub told-is : {n v : ℕ} {t : Told} → v ≡ t .place → n ≡ t .number → (n at v) ≡ t
@@ -14,3 +20,9 @@ said of e q = e ∙ ap of q
 -- the same, in the arm of a match
 pub told-arm : {A : Type 0} (of : A → Told) {x y : A} {t : Told} → t ≡ of y → x ≡ y → t ≡ of x
 told-arm of e q = e ∙ ap of (sym q)
+
+-- a level's length, from where it begins and where it ends
+pub part-length : (s : List ℕ) (k : ℕ) {from end : ℕ} → from ≡ placeAt s k → end ≡ endOf s from → end - from ≡ length (partAt s k)
+part-length s k {from} {end} e q =
+    let z : end - from ≡ length (first (drop from s)) = omega arith in
+    z ∙ ap (λ (p : ℕ). length (first (drop p s))) e ∙ ap length (part-in-place s k)

@@ -30,8 +30,9 @@ pub extern "C" fn cjumbradi_level_part(text: &[u8], k: u64, start: &mut u64, len
     ensures { λ n. ⌜ (n at now (start .exit)) ≡ (0 at placeAt (now (text .entry)) k) ⌝ }
     ensures { λ n. ⌜ now (len .exit) ≡ length (partAt (now (text .entry)) k) ⌝ }
 {
-    *start = topic::level_place(text, k as usize) as u64;
-    *len = topic::level_part(text, k as usize).len() as u64;
+    let at = topic::level_place(text, k as usize);
+    *start = at as u64;
+    *len = (level::level_end(text, at) - at) as u64;
     0
 }
 

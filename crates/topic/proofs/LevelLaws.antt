@@ -6,7 +6,7 @@ use Prim.Native.Nat.{ℕ, _≤_, _<_}
 use native.Mathlib.Omega.{arith}
 use lib.Dec.{ltb}
 use lib.ListN.{length, drop, drop-of-length-le, getD}
-use borrow.Author.Tests.{lt-ltb, le-ltb}
+use borrow.Author.Tests.{lt-ltb, le-ltb, ltb-true, ltb-false}
 use Rattle.refusal.specs.declared.Refusal.{Refusal}
 use Rattle.refusal.specs.declared.Refusal.the-variants.{NotUtf8}
 use Rattle.utf8.specs.Utf8.{isUtf8}
@@ -88,3 +88,22 @@ module _ (s : List ℕ) (k : ℕ) {p : Parsed} (ep : p ≡ parsed s) where
 
         pub part-here : l ≡ partAt s k
         part-here = rw (← ep, q, getD-from (split s) k [], levels-in s k ea level-within) el
+
+-- the part begins at its place
+drop-length : (s : List ℕ) → drop (length s) s ≡ []
+drop-length s = drop-of-length-le s {i = length s} (omega arith)
+
+in-place : (s : List ℕ) (k : ℕ) (t : Bool) → ltb k (length (split s)) ≡ t → first (drop (cond t (startOf s k) (length s)) s) ≡ getD (split s) k []
+in-place s k true e =
+    let h : k < length (split s) = ltb-true k (length (split s)) e in
+    rw (getD-from (split s) k [], levels-in s k refl (start-within s k h))
+in-place s k false e =
+    let h : length (split s) ≤ k = ltb-false k (length (split s)) e in
+    rw (drop-length s, getD-from (split s) k [], drop-of-length-le (split s) {i = k} h)
+
+pub part-in-place : (s : List ℕ) (k : ℕ) → first (drop (placeAt s k) s) ≡ partAt s k
+part-in-place s k = go (parsed s) refl
+  where
+    go : (p : Parsed) → parsed s ≡ p → first (drop (placeAt s k) s) ≡ partAt s k
+    go (Levels n) e = rw e (in-place s k (ltb k (length (split s))) refl)
+    go (ParseRefused r) e = rw (e, drop-length s)

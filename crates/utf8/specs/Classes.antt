@@ -1,10 +1,11 @@
--- FOR THE CODE. The rules of the two tables of the UTF-8 test. Assumes nothing.
-use Prim.Native.Nat.{ℕ}
-use mathlib.Core.Bool.{cond}
+-- FOR THE CODE. Texts of ASCII alone, and the rules of the two tables of the UTF-8 test. Assumes nothing.
+use mathlib.Core.Path.{_≡_}
+use Prim.Native.Nat.{ℕ, _+_, _*_, _<_, _≤_}
+use mathlib.Core.Bool.{Bool, true, cond, _&&_}
 use mathlib.Core.List.{List, [], _∷_}
-use lib.Dec.{leb, eqb}
+use lib.Dec.{leb, ltb, eqb}
 use lib.ListN.{getD}
-use Rattle.utf8.specs.Utf8.{Range, _to_, tail, Next, bad, go}
+use Rattle.utf8.specs.Utf8.{Range, _to_, tail, Next, bad, go, follow}
 
 -- the class of an octet: octets that no range of the grammar tells apart
 abbrev pub classOf : ℕ → ℕ
@@ -33,3 +34,16 @@ due n = getD dues n []
 -- 8 is for no UTF-8
 abbrev pub nextOf : ℕ → Next
 nextOf n = cond (eqb n 8) bad (go (due n))
+
+-- a table of the classes of all octets; a table of what is due after an octet of a class, a row of 12 for each that is due
+pub record ClassTable (t : List ℕ) : Type 0 where
+  pub is : (b : ℕ) → b < 256 → getD t b 0 ≡ classOf b
+
+pub record StepTable (t : List ℕ) : Type 0 where
+  pub is : (d b : ℕ) → d < 8 → b < 256 → nextOf (getD t (d * 12 + classOf b) 0) ≡ follow (due d) b
+  pub small : (d b : ℕ) → d < 8 → b < 256 → getD t (d * 12 + classOf b) 0 ≤ 8
+
+-- every octet is below 80
+abbrev pub isAscii : List ℕ → Bool
+isAscii [] = true
+isAscii (b ∷ s) = ltb b 0x80 && isAscii s

@@ -1,32 +1,44 @@
--- `utf8::next_due` meets its contract: the rule of `STEPS` over the classes, computed once. Assumes nothing.
-use borrow.Author.Needs.{needs}
+-- `utf8::next_due` meets its contract: the rules of the two tables. Assumes nothing.
 use native.Mathlib.Omega.{arith}
-use Rattle.utf8.proofs.Turns.{class-below, next-rule, next-small}
+use Rattle.utf8.proofs.Turns.{class-below, entry-within, entry-right, entry-small}
+use borrow.Author.Needs.{needs}
 use Rattle.utf8.proofs.next_due.Statement.{statement}
 use Rattle.utf8.proofs.next_due.Tie as tie
 
-mul-entry : tie.Need-mul-entry
-mul-entry c = search needs
+element-copy-out-class : tie.Need-element-copy-out-class
+element-copy-out-class c = search needs
 
-class-of-requires : tie.Need-class-of-requires
-class-of-requires c κs = search needs
-
-cast-entry : tie.Need-cast-entry
-cast-entry c = search needs
-
-add-entry : tie.Need-add-entry
-add-entry c = search needs
-
-array-read-result : tie.Need-array-read-result
-array-read-result c =
+cast-class : tie.Need-cast-class
+cast-class c =
     let a = c .before .args in
-    omega (arith, c .class-of .ensures, class-below (a .octet) (search needs))
+    record { fits = omega (arith, c .before .pre .0 .is (a .octet) (search needs), class-below (a .octet) (search needs)) }
+
+mul-result : tie.Need-mul-result
+mul-result c = search needs
+
+add-result : tie.Need-add-result
+add-result c =
+    let a = c .before .args in
+    record { fits = omega (arith, entry-within (c .before .pre .0) (c .before .pre .1) (a .due) (a .octet) (c .before .pre .2) (search needs)) }
+
+element-copy-out-result : tie.Need-element-copy-out-result
+element-copy-out-result c =
+    let a = c .before .args in
+    entry-within (c .before .pre .0) (c .before .pre .1) (a .due) (a .octet) (c .before .pre .2) (search needs)
 
 returns : tie.Need-returns
 returns c =
-    let a = c .before .args in
-    rw (c .class-of .ensures) (next-rule (a .due) (a .octet) (c .before .pre) (search needs), next-small (a .due) (a .octet) (c .before .pre) (search needs))
+    let p = c .before .before .pre in
+    let a = c .before .before .args in
+    (entry-right (p .0) (p .1) (a .due) (a .octet) (p .2) (search needs), entry-small (p .0) (p .1) (a .due) (a .octet) (p .2) (search needs))
 
 pub next-due-spec : {M : Type 1} → statement M
 next-due-spec =
-    tie.close (tie.spec mul-entry class-of-requires cast-entry add-entry array-read-result returns)
+    tie.close
+    (tie.spec
+    element-copy-out-class
+    cast-class
+    mul-result
+    add-result
+    element-copy-out-result
+    returns)
