@@ -1,0 +1,10 @@
+pub mod Order
+pub mod Ascending
+pub mod Room
+pub mod History
+pub mod Bytes
+pub mod Subscriptions
+pub mod Retained
+pub mod Forest
+pub mod Edit
+pub mod Stream
