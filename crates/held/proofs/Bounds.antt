@@ -4,8 +4,8 @@ use Prim.Native.Nat.{ℕ, zero, suc, _≤_, _<_}
 use mathlib.Core.Bool.{Bool, true, false, not, cond, _&&_, true≢false}
 use mathlib.Core.List.{List, [], _∷_, _++_, map}
 use mathlib.Core.Option.{Option, none, some}
-use borrow.Author.Tests.{ltb-true, leb-false}
-use lib.Dec.{ltb}
+use borrow.Author.Tests.{ltb-true, leb-true, leb-false}
+use lib.Dec.{ltb, leb}
 use lib.ListN.{length, drop, length-map}
 use native.Mathlib.Omega.{arith}
 use Rattle.level.specs.Levels.{split}
@@ -16,13 +16,13 @@ use Rattle.topic.specs.Rules.{Rule, nameRules, filterRules}
 use Rattle.topic.specs.declared.Checked.{Checked}
 use Rattle.topic.specs.declared.Checked.the-variants.{Accepted, Refused}
 use Rattle.held.specs.Order.{Filter, sameFilter, filterLt, samePair, pairLt, listingLt}
-use Rattle.held.specs.Ascending.{keep}
-use Rattle.held.specs.Room.{Room, inRange, roomRules, depthRule}
+use Rattle.held.specs.Ascending.{All, keep}
+use Rattle.held.specs.Room.{Room, upTo, inRange, roomRules, depthRule}
 use Rattle.held.specs.History.{verdict, accepted, run}
 use Rattle.held.specs.Subscriptions.{Pair, AscPairs, isHeld, insertHeld, removeHeld, Call, insert, remove, subscriptions, pairOf, valuesOf, listing}
 use Rattle.held.specs.Retained.{Named, setHeld, eraseHeld, expired, unexpired, sweepHeld, Call as Change, set, sweep, retained, lookup, left, all, page}
 use Rattle.held.proofs.Orders.{and-left, and-right}
-use Rattle.held.proofs.Entries.{All, all-keep, all-put, all-sort, all-map, all-with, all-take, all-drop}
+use Rattle.held.proofs.Entries.{all-keep, all-put, all-sort, all-map, all-with, all-take, all-drop}
 use Rattle.held.proofs.Texts.{Written, filter-written, name-written}
 use Rattle.held.proofs.HeldLaws.{pairs-insert, pairs-remove}
 use Rattle.held.proofs.RoomLaws.{room-within}
@@ -116,14 +116,26 @@ few-after r (remove s v) h e a = (pairs-remove (split s, v) h (a .0), omega (ari
 pub run-few : (r : Room) (cs : List Call) → length (run subscriptions r cs []) ≤ r .pairs
 run-few r cs = run-keeps subscriptions r (Few r) (λ c. Unit {0}) (λ c h q. few-after r c h) cs [] (all-calls cs) (tt, omega arith) .1
 
-in-range-pairs : (r : Room) → inRange r ≡ true → ltb (r .pairs) 8193 ≡ true
-in-range-pairs r e =
-    and-right (ltb 0 (r .nodes) && ltb (r .nodes) 4097 && ltb 0 (r .pairs)) (ltb (r .pairs) 8193)
-    (and-left (ltb 0 (r .nodes) && ltb (r .nodes) 4097 && ltb 0 (r .pairs) && ltb (r .pairs) 8193) (ltb 0 (r .cells))
-    (and-left (ltb 0 (r .nodes) && ltb (r .nodes) 4097 && ltb 0 (r .pairs) && ltb (r .pairs) 8193 && ltb 0 (r .cells)) (ltb (r .cells) 8193) e))
+-- capacities in range, as orders
+pub record InRange (r : Room) : Type 0 where
+  pub nodes : (0 < r .nodes) × (r .nodes ≤ 4096)
+  pub pairs : (0 < r .pairs) × (r .pairs ≤ 8192)
+  pub cells : (0 < r .cells) × (r .cells ≤ 8192)
+
+up-to : (most n : ℕ) → upTo most n ≡ true → (0 < n) × (n ≤ most)
+up-to most n e = (ltb-true 0 n (and-left (ltb 0 n) (leb n most) e), leb-true n most (and-right (ltb 0 n) (leb n most) e))
+
+pub in-range : (r : Room) → inRange r ≡ true → InRange r
+in-range r e =
+    let f = and-right (upTo 4096 (r .nodes)) (upTo 8192 (r .pairs) && upTo 8192 (r .cells)) e in
+    record {
+      nodes = up-to 4096 (r .nodes) (and-left (upTo 4096 (r .nodes)) (upTo 8192 (r .pairs) && upTo 8192 (r .cells)) e);
+      pairs = up-to 8192 (r .pairs) (and-left (upTo 8192 (r .pairs)) (upTo 8192 (r .cells)) f);
+      cells = up-to 8192 (r .cells) (and-right (upTo 8192 (r .pairs)) (upTo 8192 (r .cells)) f);
+    }
 
 pub run-within : (r : Room) (cs : List Call) → inRange r ≡ true → length (run subscriptions r cs []) ≤ 8192
-run-within r cs i = omega (arith, run-few r cs, ltb-true (r .pairs) 8193 (in-range-pairs r i))
+run-within r cs i = omega (arith, run-few r cs, in-range r i .pairs .1)
 
 -- a name's record whose text, handle and moment fit their bytes
 pub record SizedName (e : Named) : Type 0 where

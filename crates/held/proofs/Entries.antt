@@ -4,11 +4,7 @@ use Prim.Native.Nat.{ℕ, zero, suc}
 use mathlib.Core.Bool.{Bool, true, false, cond}
 use mathlib.Core.List.{List, [], _∷_, map}
 use lib.ListN.{take, drop}
-use Rattle.held.specs.Ascending.{keep, put, sort}
-
-abbrev pub All : {E : Type 0} → (E → Type 0) → List E → Type 0
-All P [] = Unit {0}
-All P (e ∷ l) = P e × All P l
+use Rattle.held.specs.Ascending.{All, keep, put, sort}
 
 module _ {E : Type 0} (P : E → Type 0) where
   pub all-keep : (q : E → Bool) (l : List E) → All P l → All P (keep q l)

@@ -9,6 +9,7 @@ use Rattle.level.proofs.Join.{join-split}
 use Rattle.level.specs.Levels.{split, join}
 use Rattle.topic.specs.Answers.{checked}
 use Rattle.topic.specs.Rules.{Rule, nameRules, filterRules}
+use Rattle.held.specs.Ascending.{All}
 use Rattle.held.specs.Order.{Filter, sameFilter, samePair}
 use Rattle.held.specs.Room.{Room}
 use Rattle.held.specs.History.{verdict, accepted, result, Kind, run, forRoom, hasRoom}
@@ -16,7 +17,6 @@ use Rattle.held.specs.Subscriptions.{Pair, AscPairs, isHeld, insertHeld,
 use Rattle.held.specs.Retained.{Stored, Named, AscNames, hasFilter, setHeld, eraseHeld, unexpired, Call as Change, set, sweep, retained, about, callsOf as changesOf, lookupBytes, pageBytes}
 use Rattle.held.proofs.Orders.{and-left, and-right, same-sym, filter-order, pair-order}
 use Rattle.held.proofs.Stores.{passed}
-use Rattle.held.proofs.Entries.{All}
 use Rattle.held.proofs.HeldLaws.{held-insert, held-remove, pairs-insert, pairs-remove, pairs-settled, stored, names-settled, names-set, names-erase, names-sweep, stored-set, stored-erase, stored-sweep}
 use Rattle.held.proofs.RoomLaws.{unless-room, only-room, filter-never, name-never}
 

@@ -9,13 +9,13 @@ use native.Mathlib.Omega.{arith}
 use Rattle.lent.proofs.Digits.{length-bytes, be-bytes}
 use Rattle.lent.specs.Numbers.{bytes, be}
 use Rattle.level.specs.Levels.{split, join}
+use Rattle.held.specs.Ascending.{All}
 use Rattle.held.specs.Order.{Filter}
 use Rattle.held.specs.Room.{Room, inRange}
 use Rattle.held.specs.History.{run}
 use Rattle.held.specs.Bytes.{each}
 use Rattle.held.specs.Subscriptions.{Pair, Call, subscriptions, listing, listingRecord, listingBytes}
 use Rattle.held.specs.Retained.{Named, left, nameRecord}
-use Rattle.held.proofs.Entries.{All}
 use Rattle.held.proofs.Bounds.{SizedRecord, listing-sized, SmallCall, run-sized, run-within, SizedName, left-fits}
 
 -- Reading

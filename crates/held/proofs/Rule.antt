@@ -7,11 +7,11 @@ use lib.Dec.{ltb}
 use Rattle.level.specs.Kinds.{isOnly, same}
 use Rattle.topic.specs.Match.{levelTakes, takes, leadWild, leadDollar, match47}
 use Rattle.held.specs.Order.{Level, Filter, rank, rankLt, listingLt, ruleLt}
-use Rattle.held.specs.Ascending.{keep, Below, Asc}
+use Rattle.held.specs.Ascending.{All, keep, Below, Asc}
 use Rattle.held.specs.Subscriptions.{valuesOf, listing}
 use Rattle.held.specs.Edit.{HashLast}
 use Rattle.held.proofs.Orders.{and-left, and-right, asym, eq-same, byte-order, level-order, rank-order}
-use Rattle.held.proofs.Entries.{All, all-keep, all-sort, all-passed, all-map, all-both}
+use Rattle.held.proofs.Entries.{all-keep, all-sort, all-passed, all-map, all-both}
 use Rattle.held.proofs.Listing.{listing-asc}
 use Rattle.held.proofs.Walks.{only-is}
 

@@ -11,6 +11,11 @@ any p (e ∷ l) = p e || any p l
 abbrev pub member : {K : Type 0} → (K → K → Bool) → K → List K → Bool
 member eq k l = any (eq k) l
 
+-- every entry has a property
+abbrev pub All : {E : Type 0} → (E → Type 0) → List E → Type 0
+All P [] = Unit {0}
+All P (e ∷ l) = P e × All P l
+
 -- the entries that pass a test
 abbrev pub keep : {E : Type 0} → (E → Bool) → List E → List E
 keep p [] = []

@@ -3,7 +3,7 @@
 use Prim.Native.Nat.{ℕ, _+_, _/_}
 use mathlib.Core.Bool.{Bool, not, cond, _&&_, _||_}
 use mathlib.Core.List.{List, [], _∷_, _++_, map}
-use lib.Dec.{ltb}
+use lib.Dec.{ltb, leb}
 use lib.ListN.{length}
 use Rattle.level.specs.Kinds.{isOnly}
 use Rattle.level.specs.Levels.{split}
@@ -51,8 +51,11 @@ pub record Room : Type 0 where
   pub pairs : ℕ
   pub cells : ℕ
 
+abbrev pub upTo : (most n : ℕ) → Bool
+upTo most n = ltb 0 n && leb n most
+
 abbrev pub inRange : Room → Bool
-inRange r = ltb 0 (r .nodes) && ltb (r .nodes) 4097 && ltb 0 (r .pairs) && ltb (r .pairs) 8193 && ltb 0 (r .cells) && ltb (r .cells) 8193
+inRange r = upTo 4096 (r .nodes) && (upTo 8192 (r .pairs) && upTo 8192 (r .cells))
 
 -- "13 to 15 are given exactly when the pair or name is not held and the count with it would pass N, P or C"
 abbrev pub fullRules : Room → (already : Bool) (nodes pairs cells : ℕ) → List Rule

@@ -78,6 +78,11 @@ pub length-part : (p w : ℕ) (s : List ℕ) → p + w ≤ length s → length (
 unfolding part
 length-part p w s h = rw (length-take, length-drop) (omega arith)
 
+-- a part of a part
+pub part-part : (q u p w : ℕ) (s : List ℕ) → q + u ≤ w → part q u (part p w s) ≡ part (p + q) u s
+unfolding part
+part-part q u p w s h = rw (take-drop q u (take w (drop p s)), take-take (q + u) w (drop p s) h, ← take-drop q u (drop p s), drop-drop)
+
 -- one store
 pub set-patch : (s : List ℕ) (p a : ℕ) → p < length s → set s p a ≡ patch p (a ∷ []) s
 unfolding patch

@@ -1,0 +1,55 @@
+-- What a node holds, in a unit: values, and the records of names. Assumes nothing.
+use mathlib.Core.Path.{_≡_, refl}
+use mathlib.Core.Bool.{cond}
+use mathlib.Core.List.{List, [], _∷_, _++_}
+use mathlib.Core.Option.{Option, none, some}
+use Prim.Native.Nat.{ℕ, _^_, _<_}
+use lib.ListN.{length, length-append}
+use Rattle.lent.specs.Numbers.{bytes, be}
+use Rattle.lent.specs.Parts.{part}
+use Rattle.lent.proofs.Digits.{length-bytes, be-bytes}
+use Rattle.held.specs.Retained.{Stored}
+use Rattle.region.specs.Units.{valueBytes, valueOf, momentBytes, storedBytes, storedOf}
+use Rattle.region.proofs.Decoded.{Form}
+
+value-long : (v : ℕ) → length (valueBytes v) ≡ 16
+unfolding valueBytes bytes
+value-long v = refl
+
+value-back : (v : ℕ) → v < 256 ^ 4 → valueOf (valueBytes v) ≡ v
+unfolding valueBytes valueOf bytes part
+value-back v h = be-bytes 4 v h
+
+pub values : Form ℕ
+values = record { write = valueBytes; read = valueOf; Small = λ v. v < 256 ^ 4; long = value-long; back = value-back }
+
+-- a moment that fits its 8 bytes
+abbrev pub SmallMoment : Option ℕ → Type 0
+SmallMoment none = Unit {0}
+SmallMoment (some m) = m < 256 ^ 8
+
+pub record SmallStored (s : Stored) : Type 0 where
+  pub handle : s .handle < 256 ^ 4
+  pub moment : SmallMoment (s .moment)
+
+moment-long : (h : ℕ) (m : Option ℕ) → length (bytes 4 h ++ momentBytes m) ≡ 16
+unfolding bytes
+moment-long h none = refl
+moment-long h (some m) = refl
+
+moment-back : (h : ℕ) (m : Option ℕ) → h < 256 ^ 4 → SmallMoment m
+    → _≡_ {A = Stored} (storedOf (bytes 4 h ++ momentBytes m)) (record { handle = h; moment = m })
+unfolding storedOf bytes part
+moment-back h none p q = rw (be-bytes 4 h p)
+moment-back h (some m) p q = rw (be-bytes 4 h p, be-bytes 8 m q)
+
+stored-long : (s : Stored) → length (storedBytes s) ≡ 16
+unfolding storedBytes
+stored-long s = moment-long (s .handle) (s .moment)
+
+stored-back : (s : Stored) → SmallStored s → storedOf (storedBytes s) ≡ s
+unfolding storedBytes
+stored-back s f = moment-back (s .handle) (s .moment) (f .handle) (f .moment)
+
+pub records : Form Stored
+records = record { write = storedBytes; read = storedOf; Small = SmallStored; long = stored-long; back = stored-back }

@@ -1,0 +1,4 @@
+pub mod Sizes
+pub mod Decoded
+pub mod Instances
+pub mod Stores

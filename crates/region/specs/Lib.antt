@@ -1,0 +1,5 @@
+pub mod Layout
+pub mod Units
+pub mod Opening
+pub mod Decode
+pub mod Store
