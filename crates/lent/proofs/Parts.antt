@@ -1,5 +1,5 @@
 -- Laws of `part`, `patch` and `Framed`. Assumes nothing.
-use Prim.Native.Nat.{ℕ, zero, suc, _+_, _-_, _*_, _/_, _%_, _^_, _≤_, _<_}
+use Prim.Native.Nat.{ℕ, zero, suc, _+_, _-_, _*_, _/_, _%_, _^_, _≤_, _<_, min}
 use mathlib.Core.Path.{_≡_, refl, sym, ap, _∙_}
 use mathlib.Core.List.{List, [], _∷_, _++_, append-assoc, append-nil}
 use native.Mathlib.Nat.{add-assoc, add-zero, zero-add, suc-add, add-suc}
@@ -78,10 +78,43 @@ pub length-part : (p w : ℕ) (s : List ℕ) → p + w ≤ length s → length (
 unfolding part
 length-part p w s h = rw (length-take, length-drop) (omega arith)
 
+pub part-eq : (p w : ℕ) (s : List ℕ) → part p w s ≡ take w (drop p s)
+unfolding part
+part-eq p w s = refl
+
 -- a part of a part
 pub part-part : (q u p w : ℕ) (s : List ℕ) → q + u ≤ w → part q u (part p w s) ≡ part (p + q) u s
 unfolding part
 part-part q u p w s h = rw (take-drop q u (take w (drop p s)), take-take (q + u) w (drop p s) h, ← take-drop q u (drop p s), drop-drop)
+
+-- what is left of a part behind its first k bytes, and its first k bytes
+drop-take : (k w : ℕ) (s : List ℕ) → drop k (take w s) ≡ take (w - k) (drop k s)
+drop-take zero w s = let e : w - 0 ≡ w = omega arith in rw e
+drop-take (suc k) zero s = let e : 0 - suc k ≡ 0 = omega arith in rw e
+drop-take (suc k) (suc w) [] = rw take-nil
+drop-take (suc k) (suc w) (x ∷ s) = let e : suc w - suc k ≡ w - k = omega arith in rw e (drop-take k w s)
+
+take-min : (k w : ℕ) (s : List ℕ) → take k (take w s) ≡ take (min k w) s
+take-min zero w s = let e : min 0 w ≡ 0 = omega arith in rw e
+take-min (suc k) zero s = let e : min (suc k) 0 ≡ 0 = omega arith in rw e
+take-min (suc k) (suc w) [] = sym (take-nil (min (suc k) (suc w)))
+take-min (suc k) (suc w) (x ∷ s) =
+    let e : min (suc k) (suc w) ≡ suc (min k w) = omega arith in
+    rw e (ap (λ (l : List ℕ). x ∷ l) (take-min k w s))
+
+pub drop-part : (k p w : ℕ) (s : List ℕ) → drop k (part p w s) ≡ part (p + k) (w - k) s
+unfolding part
+drop-part k p w s = rw (drop-take, drop-drop)
+
+pub take-part : (k p w : ℕ) (s : List ℕ) → take k (part p w s) ≡ part p (min k w) s
+unfolding part
+take-part k p w s = take-min k w (drop p s)
+
+-- parts are the same where they are empty or begin at one place
+pub part-same : (p q w v : ℕ) (s : List ℕ) → w ≡ v → (0 < w → p ≡ q) → part p w s ≡ part q v s
+unfolding part
+part-same p q zero v s e h = rw (← e)
+part-same p q (suc w) v s e h = let z : p ≡ q = h (omega arith) in rw (z, e)
 
 -- one store
 pub set-patch : (s : List ℕ) (p a : ℕ) → p < length s → set s p a ≡ patch p (a ∷ []) s

@@ -3,7 +3,7 @@ use mathlib.Core.Path.{_≡_, refl, sym, ap, _∙_}
 use mathlib.Core.List.{List, [], _∷_, _++_, append-assoc}
 use Prim.Native.Nat.{ℕ, zero, suc, _+_, _-_, _*_, _/_, _^_, _≤_, _<_}
 use native.Mathlib.Omega.{arith}
-use lib.ListN.{length, take, drop, replicate, length-append, length-replicate}
+use lib.ListN.{length, take, drop, replicate, length-append, length-take, length-drop, length-replicate}
 use lib.Seq.{take-at, drop-at, take-append-le}
 use Rattle.lent.specs.Numbers.{bytes, be}
 use Rattle.lent.specs.Parts.{part}
@@ -126,6 +126,39 @@ module _ {X : Type 0} (read : List ℕ → X) (m : ℕ) (w : List ℕ) where
           (decodeTo read m (take (belowOf w * 16) (drop (rowEnd w) w))) (decodeTo read m (drop (belowOf w * 16) (drop (rowEnd w) w)))
       some [] h = absurd (omega arith)
       some (b ∷ w) h = refl
+
+-- any number of turns from the length on decodes the same
+module _ {X : Type 0} (read : List ℕ → X) where
+  shorter : (w : List ℕ) → 0 < length w → length (drop (rowEnd w) w) < length w
+  shorter w h = rw length-drop (omega arith)
+
+  enough : (m n : ℕ) (w : List ℕ) → length w ≤ m → length w ≤ n → decodeTo read m w ≡ decodeTo read n w
+  enough zero n w p q = decode-none read 0 w (omega arith) ∙ sym (decode-none read n w (omega arith))
+  enough (suc m) zero w p q = decode-none read (suc m) w (omega arith) ∙ sym (decode-none read 0 w (omega arith))
+  enough (suc m) (suc n) [] p q = decode-none read (suc m) [] refl ∙ sym (decode-none read (suc n) [] refl)
+  enough (suc m) (suc n) (b ∷ w) p q =
+      let h = shorter (b ∷ w) (omega arith) in
+      let a : length (take (belowOf (b ∷ w) * 16) (drop (rowEnd (b ∷ w)) (b ∷ w))) ≤ length w = rw length-take (omega arith) in
+      let c : length (drop (belowOf (b ∷ w) * 16) (drop (rowEnd (b ∷ w)) (b ∷ w))) ≤ length w = rw (length-drop (belowOf (b ∷ w) * 16)) (omega arith) in
+      decode-some read m (b ∷ w) (omega arith)
+      ∙ rw (enough m n (take (belowOf (b ∷ w) * 16) (drop (rowEnd (b ∷ w)) (b ∷ w))) (omega arith) (omega arith), enough m n (drop (belowOf (b ∷ w) * 16) (drop (rowEnd (b ∷ w)) (b ∷ w))) (omega arith) (omega arith))
+      (sym (decode-some read n (b ∷ w) (omega arith)))
+
+  -- one row off the front
+  pub decode-step : (w : List ℕ) → 0 < length w → decode read w
+      ≡ fork (part 8 (lenOf w) w) (unitsTo read (ownOf w) (drop (ownAt w) w))
+      (decode read (take (belowOf w * 16) (drop (rowEnd w) w))) (decode read (drop (belowOf w * 16) (drop (rowEnd w) w)))
+  unfolding decode
+  decode-step [] h = absurd (omega arith)
+  decode-step (b ∷ w) h =
+      let g = shorter (b ∷ w) h in
+      let a : length (take (belowOf (b ∷ w) * 16) (drop (rowEnd (b ∷ w)) (b ∷ w))) ≤ length w = rw length-take (omega arith) in
+      let c : length (drop (belowOf (b ∷ w) * 16) (drop (rowEnd (b ∷ w)) (b ∷ w))) ≤ length w = rw (length-drop (belowOf (b ∷ w) * 16)) (omega arith) in
+      decode-some read (length w) (b ∷ w) h
+      ∙ rw (
+        enough (length w) (length (take (belowOf (b ∷ w) * 16) (drop (rowEnd (b ∷ w)) (b ∷ w)))) (take (belowOf (b ∷ w) * 16) (drop (rowEnd (b ∷ w)) (b ∷ w))) a (omega arith),
+        enough (length w) (length (drop (belowOf (b ∷ w) * 16) (drop (rowEnd (b ∷ w)) (b ∷ w)))) (drop (belowOf (b ∷ w) * 16) (drop (rowEnd (b ∷ w)) (b ∷ w))) c (omega arith),
+      )
 
 -- what was written down is read back
 module _ {X : Type 0} (u : Form X) where

@@ -1,0 +1,66 @@
+-- `forest::rows::row_at` meets its contract. Assumes nothing.
+use borrow.Author.Needs.{needs}
+use Rattle.forest.proofs.RowLaws.{row-is}
+use Rattle.forest.proofs.rows.row_at.Statement.{statement}
+use Rattle.forest.proofs.rows.row_at.Tie as tie
+
+mul-at : tie.Need-mul-at
+mul-at c = search needs
+
+add-at : tie.Need-add-at
+add-at c = search needs
+
+get16-requires : tie.Need-get16-requires
+get16-requires c κs = search needs
+
+add-get16 : tie.Need-add-get16
+add-get16 c = search needs
+
+get16-requires-2 : tie.Need-get16-requires-2
+get16-requires-2 c κs = search needs
+
+add-get16-2 : tie.Need-add-get16-2
+add-get16-2 c = search needs
+
+get16-requires-3 : tie.Need-get16-requires-3
+get16-requires-3 c κs = search needs
+
+add-smaller : tie.Need-add-smaller
+add-smaller c = search needs
+
+add-smaller-2 : tie.Need-add-smaller-2
+add-smaller-2 c = search needs
+
+add-smaller-3 : tie.Need-add-smaller-3
+add-smaller-3 c = search needs
+
+smaller-requires : tie.Need-smaller-requires
+smaller-requires c κs = search needs
+
+add-smaller-4 : tie.Need-add-smaller-4
+add-smaller-4 c = search needs
+
+smaller-requires-2 : tie.Need-smaller-requires-2
+smaller-requires-2 c κs = search needs
+
+returns : tie.Need-returns
+returns c = search (needs, row-is)
+
+pub row-at-spec : {M : Type 1} → statement M
+row-at-spec =
+    tie.close
+    (tie.spec
+    mul-at
+    add-at
+    get16-requires
+    add-get16
+    get16-requires-2
+    add-get16-2
+    get16-requires-3
+    add-smaller
+    add-smaller-2
+    add-smaller-3
+    smaller-requires
+    add-smaller-4
+    smaller-requires-2
+    returns)
