@@ -2,3 +2,4 @@ pub mod Sizes
 pub mod Decoded
 pub mod Instances
 pub mod Stores
+pub mod CountLaws

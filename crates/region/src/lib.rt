@@ -1,4 +1,9 @@
 // The region of a store: its header, the bytes that it needs, and opening it. specs/Layout.antt has the drawing.
+mod counts;
+
+pub use counts::cells_size;
+pub use counts::nodes_size;
+pub use counts::values_size;
 ghost use mathlib.Core.Path.{_≡_};
 ghost use Prim.Native.Nat.{_/_, _%_, _≤_};
 ghost use mathlib.Core.Bool.{true};
