@@ -49,7 +49,7 @@ uint64_t cjumbradi_level_part(const uint8_t *text, size_t text_len, uint64_t k, 
 
 /* Whether a text is a topic name (refuses 1 to 5), a topic filter (1 to 4, 6, 7), or a filter to put in
  * a SUBSCRIBE (1 to 4, 6 to 9; in `$share/` text 6 and 7 count the levels of the filter behind the
- * group). Where more than one number is true, the smallest is given. */
+ * group). Where more than one number is true, the smallest is given. Accepted, the place is 0. */
 uint64_t cjumbradi_is_valid_topic_name(const uint8_t *text, size_t text_len, uint64_t *place);
 uint64_t cjumbradi_is_valid_topic_filter(const uint8_t *text, size_t text_len, uint64_t *place);
 uint64_t cjumbradi_is_valid_subscription_filter(const uint8_t *text, size_t text_len, uint64_t *place);

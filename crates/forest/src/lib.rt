@@ -1,7 +1,7 @@
 // The tree in a region: reading its rows.
 //
-// A row is known by the number of its first unit. `base` is where the units begin, and `n` the unit that nothing read may
-// pass; whatever the bytes are, no number of a row leads past it.
+// A row is known by the number of its first unit. `base` is where the units begin. Whatever the bytes are, a row's `end` and
+// `past` never lead beyond unit `n`; its `len` and `own` are as the bytes say.
 mod levels;
 mod rows;
 

@@ -115,17 +115,6 @@ bytes-be (x ∷ l) h =
     let m : (x * 256 ^ length l + be l) % 256 ^ length l ≡ be l = digits-mod x r in
     rw (← one-add, bytes-add, q, ← bytes-mod (length l) (x * 256 ^ length l + be l), m, bytes-be l (λ i. h (suc i)), bytes-one x (h 0))
 
--- a part of bytes is of bytes
-take-bytes : (n i : ℕ) (l : List ℕ) → ((j : ℕ) → getD l j 0 < 256) → getD (take n l) i 0 < 256
-take-bytes zero i l h = omega arith
-take-bytes (suc n) i [] h = omega arith
-take-bytes (suc n) zero (x ∷ l) h = h 0
-take-bytes (suc n) (suc i) (x ∷ l) h = take-bytes n i l (λ j. h (suc j))
-
-part-bytes : (p w : ℕ) (s : List ℕ) → ((i : ℕ) → Fits w8 (getD s i 0)) → (i : ℕ) → getD (part p w s) i 0 < 256
-unfolding part
-part-bytes p w s h i = take-bytes w i (drop p s) (λ j. rw getD-drop (h (p + j) .fits))
-
 -- two bytes as a number, in the words of the code
 pub two-bytes : (p x y : ℕ) (s : List ℕ) → p + 2 ≤ length s → x ≡ getD s p 0 → y ≡ getD s (p + 1) 0 → x * 256 + y ≡ be (part p 2 s)
 two-bytes p x y s h d e =

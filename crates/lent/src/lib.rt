@@ -1,5 +1,4 @@
-// Numbers, parts, copies and gaps in lent bytes. This is the only place that knows how a number stands in bytes: its high
-// byte first. Every function takes all places: what does not fit within the bytes reads as 0 and writes nothing.
+// Numbers, parts, copies and gaps in lent bytes. A number stands with its high byte first. Every function takes all places: what does not fit within the bytes reads as 0 and writes nothing.
 mod moves;
 mod numbers;
 

@@ -200,12 +200,6 @@ part-first s i =
 pub count-end : (s : List ℕ) (i : ℕ) → length s ≤ i → length (split (drop i s)) ≡ 1
 count-end s i h = rw (drop-of-length-le s h)
 
-pub level-none : (s : List ℕ) (k : ℕ) {at : ℕ} → at ≡ startOf s k → length s < at → getD (split s) k [] ≡ []
-level-none s k e h = rw (getD-from (split s) k [], levels-out s k e h)
-
-pub level-here : (s : List ℕ) (k : ℕ) {at : ℕ} → at ≡ startOf s k → at ≤ length s → getD (split s) k [] ≡ first (drop at s)
-level-here s k e h = rw (getD-from (split s) k [], levels-in s k e h)
-
 -- what a caller of `part_at` uses: where the part ends
 pub part-end : (s : List ℕ) (i : ℕ) {l : List ℕ} → l ≡ first (drop i s) → i + length l ≡ endOf s i
 part-end s i e = ap (λ (l : List ℕ). i + length l) e

@@ -5,7 +5,7 @@ use mathlib.Core.List.{List, [], _∷_}
 use lib.Dec.{eqb, ltb}
 use lib.ListN.{length}
 use Rattle.level.specs.declared.Kind.{Kind}
-use Rattle.level.specs.declared.Kind.the-variants.{None, Normal, Metadata, Blank, SingleWildcard, MultiWildcard}
+use Rattle.level.specs.declared.Kind.the-variants.{Normal, Metadata, Blank, SingleWildcard, MultiWildcard}
 
 abbrev pub blank : List ℕ → Bool
 blank [] = true

@@ -1,4 +1,4 @@
--- The table of document 01, 'Refusal numbers': the number and the place that a caller is told for each refusal. Assumes nothing.
+-- TO BELIEVE. The table of document 01, 'Refusal numbers': the number and the place that a caller is told for each refusal. Assumes nothing.
 use Prim.Native.Nat.{ℕ}
 use Rattle.refusal.specs.declared.Refusal.{Refusal}
 use Rattle.refusal.specs.declared.Refusal.the-variants.{Empty, TooLong, NotUtf8, HasNul, HasWildcard, BadLevel, HashNotLast, NoInner, BadGroup, BadSize, NotAStore, TooDeep, NodesFull, PairsFull, TextFull, ShortRoom}

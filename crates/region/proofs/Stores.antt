@@ -13,10 +13,11 @@ use Rattle.lent.proofs.Parts.{part-part, part-patch, length-patch}
 use Rattle.lent.proofs.Digits.{be-bytes}
 use Rattle.level.specs.Kinds.{isOnly}
 use Rattle.held.specs.Order.{Level}
-use Rattle.held.specs.Room.{Room, inRange, levelCells}
-use Rattle.held.specs.Forest.{Forest, leaf, fork, held, under}
-use Rattle.held.specs.Edit.{WellFormed, WellNamed, weighF, sizeF, cellsF}
+use Rattle.held.specs.Room.{Room, inRange, allLeads, nodesOf, nodeCount, levelCells, cellCount}
+use Rattle.held.specs.Forest.{Forest, leaf, fork, held, under, Rows}
+use Rattle.held.specs.Edit.{Full, weighF, sizeF, cellsF}
 use Rattle.held.proofs.Bounds.{in-range}
+use Rattle.held.proofs.Counts.{node-count, cell-count}
 use Rattle.region.specs.Layout.{unitRoom, neededBytes, levelUnits, unitsF, unitBytes, marksOf, Used, headerBytes}
 use Rattle.region.specs.Units.{valueBytes, valueOf, storedBytes, storedOf}
 use Rattle.region.specs.Opening.{nothing}
@@ -66,7 +67,7 @@ module _ (kind : ℕ) (r : Room) (s : List ℕ) (range : inRange r ≡ true) (lo
       rw z (decode-none read 0 [] refl)
 
   pub opened-written : {X : Type 0} (write : X → List ℕ) → WrittenIn kind write leaf (patch 0 (headerBytes kind r nothing) s)
-  unfolding weighF held unitsF marksOf unitBytes part
+  unfolding nodeCount cellCount nodesOf allLeads held unitsF marksOf unitBytes part
   opened-written write =
       record {
         range = subst (λ (x : Room). inRange x ≡ true) (sym opened-room) range;
@@ -123,9 +124,16 @@ level-fits (x ∷ []) = one (eqb x 43 || eqb x 35)
     one false = omega arith
 level-fits (x ∷ y ∷ l) = omega arith
 
-pub units-fit : {X : Type 0} (F : Forest X) → unitsF F ≤ sizeF F + length (held F) + cellsF F
+forest-fits : {X : Type 0} (F : Forest X) → unitsF F ≤ sizeF F + length (held F) + cellsF F
 unfolding unitsF weighF held
-units-fit leaf = omega arith
-units-fit (fork l v k n) =
+forest-fits leaf = omega arith
+forest-fits (fork l v k n) =
     rw (length-append, length-append, length-map, length-map)
-    (omega (arith, level-fits l, units-fit k, units-fit n))
+    (omega (arith, level-fits l, forest-fits k, forest-fits n))
+
+pub units-fit : {X : Type 0} (F : Forest X) → Rows F → Full F → unitsF F ≤ nodeCount (held F) + length (held F) + cellCount (held F)
+units-fit F r f = rw (node-count F r f, cell-count F r f) (forest-fits F)
+
+-- "at most 64 + 48N + 24P + 32C"
+pub needed-most : (r : Room) → neededBytes r ≤ 64 + 48 * r .nodes + 24 * r .pairs + 32 * r .cells
+needed-most r = omega arith

@@ -1,5 +1,6 @@
--- TO BELIEVE. The forest that units hold, whatever their bytes are: a number that runs past the end is cut off there, so every
--- list of bytes is some forest. `decode-units` of proofs/Decoded.antt: what was written down is read back. Assumes nothing.
+-- TO BELIEVE. The forest that units hold, whatever their bytes are: a level and the rows below are cut off at the end, and a
+-- unit past the end is read as one of no bytes, so every list of bytes is some forest. `decode-units` of proofs/Decoded.antt:
+-- what was written down is read back. Assumes nothing.
 use Prim.Native.Nat.{ℕ, zero, suc, _+_, _*_, _/_}
 use mathlib.Core.List.{List, [], _∷_}
 use lib.ListN.{length, take, drop}

@@ -1,4 +1,4 @@
--- TO BELIEVE. The region of a store, and how a forest is written down in it. This is the only place that knows offsets. Assumes nothing.
+-- TO BELIEVE. The region of a store, and how a forest is written down in it. Assumes nothing.
 --
 --     0                mark 43 4A; kind (1 subscriptions, 2 retained names); shape 1
 --     4                capacities: nodes N, pairs P, cells C           numbers of 2 bytes, the high byte first

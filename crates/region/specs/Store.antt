@@ -14,10 +14,10 @@ use Rattle.topic.specs.Answers.{checked}
 use Rattle.topic.specs.declared.Checked.the-variants.{Accepted}
 use Rattle.held.specs.Order.{Filter}
 use Rattle.held.specs.Ascending.{All}
-use Rattle.held.specs.Room.{Room, inRange}
+use Rattle.held.specs.Room.{Room, inRange, nodeCount, cellCount}
 use Rattle.held.specs.Retained.{Stored}
 use Rattle.held.specs.Forest.{Forest, held}
-use Rattle.held.specs.Edit.{WellFormed, WellNamed, sizeF, cellsF}
+use Rattle.held.specs.Edit.{WellFormed, WellNamed}
 use Rattle.region.specs.Layout.{unitRoom, neededBytes, unitsF, unitBytes, marksOf, Used, headerBytes}
 use Rattle.region.specs.Units.{valueBytes, valueOf, storedBytes, storedOf}
 use Rattle.region.specs.Decode.{decode}
@@ -29,9 +29,9 @@ roomAt s = record { nodes = be (part 4 2 s); pairs = be (part 6 2 s); cells = be
 abbrev pub forestAt : {X : Type 0} → (read : List ℕ → X) → List ℕ → Forest X
 forestAt read s = decode read (part (64 + unitRoom (roomAt s)) (be (part 16 2 s) * 16) s)
 
--- "In use are": nodes, pairs, cells; and the units that they take
+-- "In use are": nodes, pairs and cells, counted from what is held; and the units that they take
 abbrev pub usedBy : {X : Type 0} → Forest X → Used
-usedBy F = record { nodes = sizeF F; pairs = length (held F); cells = cellsF F; units = unitsF F }
+usedBy F = record { nodes = nodeCount (held F); pairs = length (held F); cells = cellCount (held F); units = unitsF F }
 
 -- a forest is written down in a region
 pub record WrittenIn {X : Type 0} (kind : ℕ) (write : X → List ℕ) (F : Forest X) (s : List ℕ) : Type 0 where
@@ -40,9 +40,9 @@ pub record WrittenIn {X : Type 0} (kind : ℕ) (write : X → List ℕ) (F : For
   pub header : part 0 18 s ≡ headerBytes kind (roomAt s) (usedBy F)
   pub marks : part 64 (unitsF F) s ≡ marksOf 1 F
   pub units : part (64 + unitRoom (roomAt s)) (unitsF F * 16) s ≡ unitBytes write F
-  pub nodes-fit : sizeF F ≤ roomAt s .nodes
+  pub nodes-fit : nodeCount (held F) ≤ roomAt s .nodes
   pub pairs-fit : length (held F) ≤ roomAt s .pairs
-  pub cells-fit : cellsF F ≤ roomAt s .cells
+  pub cells-fit : cellCount (held F) ≤ roomAt s .cells
 
 -- each of what is held stands under the levels of a text that is accepted, at most 128 of them
 pub record Accepts (rules : List ℕ → List Rule) (f : Filter) : Type 0 where
