@@ -121,13 +121,13 @@ fn empty_header(kind: Kind, c: Capacities) -> [u8; 18]
         low(pairs.0),
         high(cells.0),
         low(cells.0),
+        0, // in use: nodes
         0,
+        0, // in use: pairs
         0,
+        0, // in use: cells
         0,
-        0,
-        0,
-        0,
-        0,
+        0, // in use: units
         0,
     ]
 }

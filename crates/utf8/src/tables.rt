@@ -2,6 +2,7 @@
 
 // The class of each octet.
 pub const CLASSES: [u8; 256] = [
+    0, // 00 to 7F: a character by itself
     0,
     0,
     0,
@@ -129,7 +130,7 @@ pub const CLASSES: [u8; 256] = [
     0,
     0,
     0,
-    0,
+    1, // 80 to 8F
     1,
     1,
     1,
@@ -145,7 +146,7 @@ pub const CLASSES: [u8; 256] = [
     1,
     1,
     1,
-    1,
+    2, // 90 to 9F
     2,
     2,
     2,
@@ -161,7 +162,7 @@ pub const CLASSES: [u8; 256] = [
     2,
     2,
     2,
-    2,
+    3, // A0 to BF
     3,
     3,
     3,
@@ -193,9 +194,9 @@ pub const CLASSES: [u8; 256] = [
     3,
     3,
     3,
-    3,
+    11, // C0, C1: begin nothing
     11,
-    11,
+    4, // C2 to DF: one octet follows
     4,
     4,
     4,
@@ -225,8 +226,8 @@ pub const CLASSES: [u8; 256] = [
     4,
     4,
     4,
-    4,
-    5,
+    5, // E0: no overlong form
+    6, // E1 to EC: two octets follow
     6,
     6,
     6,
@@ -238,16 +239,15 @@ pub const CLASSES: [u8; 256] = [
     6,
     6,
     6,
+    7, // ED: no surrogate
+    6, // EE, EF
     6,
-    7,
-    6,
-    6,
-    8,
+    8, // F0: no overlong form
+    9, // F1 to F3: three octets follow
     9,
     9,
-    9,
-    10,
-    11,
+    10, // F4: nothing past U+10FFFF
+    11, // F5 to FF: begin nothing
     11,
     11,
     11,
