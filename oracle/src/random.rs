@@ -1,7 +1,7 @@
 //! Random inputs from a seed: longer texts than all can be tried of, and pairs made so that
 //! matches are common.
 
-use crate::inputs::Input;
+use crate::inputs::{Input, SYMBOLS};
 
 /// The generator SplitMix64. It is small, and the same seed gives the same inputs everywhere.
 struct Random(u64);
@@ -29,21 +29,11 @@ impl Random {
     }
 }
 
-/// Pieces of texts; what is common in topics stands in here more than once.
+/// Pieces of texts beside the symbols; what is common in topics stands in here again.
 const PIECES: &[&[u8]] = &[
     b"/",
     b"/",
-    b"/",
-    b"+",
-    b"#",
-    b"$",
-    b"a",
-    b"b",
-    b"!",
-    b"\0",
     b" ",
-    "\u{E9}".as_bytes(),
-    "\u{20AC}".as_bytes(),
     "\u{10FFFF}".as_bytes(),
     b"$share/",
     b"$limit/",
@@ -73,9 +63,10 @@ const LEVELS: &[&[u8]] = &[
 /// the faults of UTF-8 turn up.
 pub fn texts(seed: u64, count: usize) -> impl Iterator<Item = Vec<u8>> {
     let mut random = Random(seed);
+    let choices = [SYMBOLS, PIECES].concat();
     (0..count).map(move |_| {
         let length = random.below(17);
-        let pieces: Vec<&[u8]> = (0..length).map(|_| random.of(PIECES)).collect();
+        let pieces: Vec<&[u8]> = (0..length).map(|_| random.of(&choices)).collect();
         let mut text = pieces.concat();
         if !text.is_empty() && random.once_in(8) {
             let at = random.below(text.len());

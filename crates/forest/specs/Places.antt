@@ -1,11 +1,12 @@
 -- FOR THE CODE. The rows of a region by the numbers of their units, which begin at a base. Assumes nothing.
 use mathlib.Core.Path.{_≡_}
-use Prim.Native.Nat.{ℕ, _+_, _-_, _*_, _/_, _<_, _≤_, min}
+use Prim.Native.Nat.{ℕ, _+_, _-_, _*_, _<_, _≤_, min}
 use mathlib.Core.List.{List}
 use lib.ListN.{length}
 use Rattle.lent.specs.Numbers.{be}
 use Rattle.lent.specs.Parts.{part}
 use Rattle.held.specs.Forest.{Forest}
+use Rattle.region.specs.Layout.{unitsFor}
 use Rattle.region.specs.Decode.{unitsTo, decode}
 use Rattle.forest.specs.declared.Row.{Row}
 
@@ -29,7 +30,7 @@ belowAt base s i = be (part (unitAt base i + 4) 2 s)
 
 -- the units of the head and the level; the unit behind the row, and the unit behind all below it: none past n
 abbrev pub levelUnitsAt : (base : ℕ) → List ℕ → ℕ → ℕ
-levelUnitsAt base s i = (lenAt base s i + 23) / 16
+levelUnitsAt base s i = unitsFor (lenAt base s i)
 
 unfoldable pub rowEnd : (base : ℕ) → List ℕ → (i n : ℕ) → ℕ
 rowEnd base s i n = min (i + levelUnitsAt base s i + ownAt base s i) n

@@ -5,7 +5,7 @@ use mathlib.Core.List.{List, [], _∷_}
 use Rattle.level.specs.Kinds.{same}
 use Rattle.held.specs.Order.{Level, Filter, sameFilter, levelLt}
 use Rattle.held.specs.Forest.{Forest, leaf, fork, miss, hit, kid, valuesAt, Over, Rows}
-use Rattle.held.specs.Edit.{ownAt, chain, growF, pruned, cutF}
+use Rattle.held.specs.Edit.{editOwn, chain, growF, pruned, cutF}
 use Rattle.held.proofs.Orders.{Tri, lower, alike, higher, tri, eq-higher, same-sym, level-order}
 use Rattle.held.proofs.Walks.{at-miss, kid-over}
 
@@ -17,7 +17,7 @@ module _ {X : Type 0} (u : List X → List X) where
 
   -- a node on the path, with other children, and with u done to what it holds if the path ends there
   node : (qs : Filter) (v : List X) (k k′ : Forest X) → ((h : Level) (hs : Filter) → valuesAt hs (kid h k′) ≡ cond (sameFilter (h ∷ hs) qs) (u (valuesAt hs (kid h k))) (valuesAt hs (kid h k)))
-      → (gs : Filter) → valuesAt gs (hit (ownAt u qs v) k′) ≡ cond (sameFilter gs qs) (u (valuesAt gs (hit v k))) (valuesAt gs (hit v k))
+      → (gs : Filter) → valuesAt gs (hit (editOwn u qs v) k′) ≡ cond (sameFilter gs qs) (u (valuesAt gs (hit v k))) (valuesAt gs (hit v k))
   unfolding valuesAt
   node [] v k k′ e [] = refl
   node (q ∷ qs) v k k′ e [] = refl
@@ -25,16 +25,16 @@ module _ {X : Type 0} (u : List X → List X) where
   node (q ∷ qs) v k k′ e (h ∷ hs) = e h hs
 
   node-row : (t : Level) (qs : Filter) (v : List X) (k k′ n : Forest X) → ((h : Level) (hs : Filter) → valuesAt hs (kid h k′) ≡ cond (sameFilter (h ∷ hs) qs) (u (valuesAt hs (kid h k))) (valuesAt hs (kid h k)))
-      → (h : Level) (hs : Filter) → valuesAt hs (kid h (fork t (ownAt u qs v) k′ n)) ≡ cond (sameFilter (h ∷ hs) (t ∷ qs)) (u (valuesAt hs (kid h (fork t v k n)))) (valuesAt hs (kid h (fork t v k n)))
+      → (h : Level) (hs : Filter) → valuesAt hs (kid h (fork t (editOwn u qs v) k′ n)) ≡ cond (sameFilter (h ∷ hs) (t ∷ qs)) (u (valuesAt hs (kid h (fork t v k n)))) (valuesAt hs (kid h (fork t v k n)))
   unfolding kid
   node-row t qs v k k′ n e h hs = go (same h t)
     where
-      go : (s : Bool) → valuesAt hs (cond s (hit (ownAt u qs v) k′) (kid h n)) ≡ cond (s && sameFilter hs qs) (u (valuesAt hs (cond s (hit v k) (kid h n)))) (valuesAt hs (cond s (hit v k) (kid h n)))
+      go : (s : Bool) → valuesAt hs (cond s (hit (editOwn u qs v) k′) (kid h n)) ≡ cond (s && sameFilter hs qs) (u (valuesAt hs (cond s (hit v k) (kid h n)))) (valuesAt hs (cond s (hit v k) (kid h n)))
       go true = node qs v k k′ e hs
       go false = refl
 
   new-node : (gs : Filter) → ((h : Level) (hs : Filter) → valuesAt hs (kid h (chain u gs)) ≡ cond (sameFilter (h ∷ hs) gs) (u []) [])
-      → (hs : Filter) → valuesAt hs (hit (ownAt u gs []) (chain u gs)) ≡ cond (sameFilter hs gs) (u []) []
+      → (hs : Filter) → valuesAt hs (hit (editOwn u gs []) (chain u gs)) ≡ cond (sameFilter hs gs) (u []) []
   unfolding kid valuesAt
   new-node gs e hs = rw at-none at (node gs [] leaf (chain u gs) (λ h hs. rw (at-miss hs) (e h hs)) hs)
 
@@ -43,8 +43,8 @@ module _ {X : Type 0} (u : List X → List X) where
   at-chain [] h hs = at-miss hs
   at-chain (g ∷ gs) h hs = go (same h g) (new-node gs (at-chain gs) hs)
     where
-      go : (s : Bool) → valuesAt hs (hit (ownAt u gs []) (chain u gs)) ≡ cond (sameFilter hs gs) (u []) []
-          → valuesAt hs (cond s (hit (ownAt u gs []) (chain u gs)) miss) ≡ cond (s && sameFilter hs gs) (u []) []
+      go : (s : Bool) → valuesAt hs (hit (editOwn u gs []) (chain u gs)) ≡ cond (sameFilter hs gs) (u []) []
+          → valuesAt hs (cond s (hit (editOwn u gs []) (chain u gs)) miss) ≡ cond (s && sameFilter hs gs) (u []) []
       go true e = e
       go false e = at-miss hs
 
@@ -75,7 +75,7 @@ module _ {X : Type 0} (u : List X → List X) where
   unfolding growF kid valuesAt
   grow-step t g gs v k n o a b (lower p q) h hs = rw p (go (same h g) refl)
     where
-      go : (s : Bool) → same h g ≡ s → valuesAt hs (cond s (hit (ownAt u gs []) (chain u gs)) (kid h (fork t v k n))) ≡ cond (s && sameFilter hs gs) (u (valuesAt hs (kid h (fork t v k n)))) (valuesAt hs (kid h (fork t v k n)))
+      go : (s : Bool) → same h g ≡ s → valuesAt hs (cond s (hit (editOwn u gs []) (chain u gs)) (kid h (fork t v k n))) ≡ cond (s && sameFilter hs gs) (u (valuesAt hs (kid h (fork t v k n)))) (valuesAt hs (kid h (fork t v k n)))
       go true e =
           let z : h ≡ g = level-order .eq-true h g e in
           let m : kid h (fork t v k n) ≡ miss = rw z (kid-over g (fork t v k n) (p, over-mono g t n p o)) in
@@ -112,7 +112,7 @@ module _ {X : Type 0} (u : List X → List X) where
   unfolding kid valuesAt cutF
   cut-step t g gs v k n o a b true e h hs =
       let z : g ≡ t = level-order .eq-true g t e in
-      rw e (at-pruned t (ownAt u gs v) (cutF u gs k) n o h hs ∙ rw z (node-row t gs v k (cutF u gs k) n a h hs))
+      rw e (at-pruned t (editOwn u gs v) (cutF u gs k) n o h hs ∙ rw z (node-row t gs v k (cutF u gs k) n a h hs))
   cut-step t g gs v k n o a b false e h hs = rw e (rest-row t g gs v k n (cutF u (g ∷ gs) n) e b h hs)
 
   pub at-cut : u [] ≡ [] → (F : Forest X) → Rows F → (p : Filter) (h : Level) (hs : Filter) → valuesAt hs (kid h (cutF u p F)) ≡ cond (sameFilter (h ∷ hs) p) (u (valuesAt hs (kid h F))) (valuesAt hs (kid h F))
@@ -170,8 +170,8 @@ module _ {X : Type 0} (u : List X → List X) where
   over-cut s [] (fork t v k n) r o = o
   over-cut s (g ∷ gs) (fork t v k n) r o = go (same g t) (over-cut s (g ∷ gs) n (r .2) (o .1))
     where
-      go : (c : Bool) → Over s (cutF u (g ∷ gs) n) → Over s (cond c (pruned t (ownAt u gs v) (cutF u gs k) n) (fork t v k (cutF u (g ∷ gs) n)))
-      go true i = over-pruned s t (ownAt u gs v) (cutF u gs k) n (o .0) (o .1)
+      go : (c : Bool) → Over s (cutF u (g ∷ gs) n) → Over s (cond c (pruned t (editOwn u gs v) (cutF u gs k) n) (fork t v k (cutF u (g ∷ gs) n)))
+      go true i = over-pruned s t (editOwn u gs v) (cutF u gs k) n (o .0) (o .1)
       go false i = (o .0, i)
 
   pub rows-cut : (p : Filter) (F : Forest X) → Rows F → Rows (cutF u p F)
@@ -180,6 +180,6 @@ module _ {X : Type 0} (u : List X → List X) where
   rows-cut [] (fork t v k n) r = r
   rows-cut (g ∷ gs) (fork t v k n) r = go (same g t) (rows-cut gs k (r .1)) (rows-cut (g ∷ gs) n (r .2))
     where
-      go : (c : Bool) → Rows (cutF u gs k) → Rows (cutF u (g ∷ gs) n) → Rows (cond c (pruned t (ownAt u gs v) (cutF u gs k) n) (fork t v k (cutF u (g ∷ gs) n)))
-      go true i j = rows-pruned t (ownAt u gs v) (cutF u gs k) n (r .0) i (r .2)
+      go : (c : Bool) → Rows (cutF u gs k) → Rows (cutF u (g ∷ gs) n) → Rows (cond c (pruned t (editOwn u gs v) (cutF u gs k) n) (fork t v k (cutF u (g ∷ gs) n)))
+      go true i j = rows-pruned t (editOwn u gs v) (cutF u gs k) n (r .0) i (r .2)
       go false i j = (over-cut t (g ∷ gs) n (r .2) (r .0), r .1, j)

@@ -9,7 +9,7 @@ use Rattle.topic.specs.Match.{takes}
 use Rattle.held.specs.Order.{Level, Filter, levelLt}
 use Rattle.held.specs.Retained.{Stored}
 use Rattle.held.specs.Forest.{Forest, leaf, fork, miss, hit, hash, plus, kid, Over, fits, onward}
-use Rattle.held.specs.Edit.{ownAt, chain, growF, pruned, cutF}
+use Rattle.held.specs.Edit.{editOwn, chain, growF, pruned, cutF}
 use Rattle.held.specs.Stream.{recordAt, hashBytes, walkBytes, ownCount, ownBytes, rowCount, rowBytes}
 use Rattle.held.proofs.Orders.{asym, level-order}
 use Rattle.held.proofs.Walks.{kid-over}
@@ -29,7 +29,7 @@ module _ {X : Type 0} (g t : Level) (v : List X) (k n : Forest X) where
   kid-past p o = kid-over g (fork t v k n) (p, over-mono (λ v. v) g t n p o)
 
   module _ (u : List X → List X) (gs : Filter) where
-    pub grow-before : levelLt g t ≡ true → growF u (g ∷ gs) (fork t v k n) ≡ fork g (ownAt u gs []) (chain u gs) (fork t v k n)
+    pub grow-before : levelLt g t ≡ true → growF u (g ∷ gs) (fork t v k n) ≡ fork g (editOwn u gs []) (chain u gs) (fork t v k n)
     unfolding growF
     grow-before p = rw p
 
@@ -37,11 +37,11 @@ module _ {X : Type 0} (g t : Level) (v : List X) (k n : Forest X) where
     unfolding growF
     grow-after p = rw (asym level-order t g p, p)
 
-    pub grow-here : g ≡ t → growF u (g ∷ gs) (fork t v k n) ≡ fork t (ownAt u gs v) (growF u gs k) n
+    pub grow-here : g ≡ t → growF u (g ∷ gs) (fork t v k n) ≡ fork t (editOwn u gs v) (growF u gs k) n
     unfolding growF
     grow-here z = rw (z, level-order .irrefl t)
 
-    pub cut-here : same g t ≡ true → cutF u (g ∷ gs) (fork t v k n) ≡ pruned t (ownAt u gs v) (cutF u gs k) n
+    pub cut-here : same g t ≡ true → cutF u (g ∷ gs) (fork t v k n) ≡ pruned t (editOwn u gs v) (cutF u gs k) n
     unfolding cutF
     cut-here e = rw e
 

@@ -9,7 +9,7 @@ use Rattle.held.specs.Order.{Level, Filter, sameFilter, levelLt, filterL
 use Rattle.held.specs.Ascending.{member, keep, Below, Asc}
 use Rattle.held.specs.Subscriptions.{Pair, AscPairs, isHeld, insertHeld, removeHeld, valuesOf}
 use Rattle.held.specs.Forest.{Forest, leaf, fork, hit, under, held, kid, valuesAt, Over, Rows, HashEnds}
-use Rattle.held.specs.Edit.{ownAt, chain, growF, pruned, cutF, withValue, withoutValue, insertF, removeF, Owns, Full, AscValues, WellFormed, HashLast}
+use Rattle.held.specs.Edit.{editOwn, chain, growF, pruned, cutF, withValue, withoutValue, insertF, removeF, Owns, Full, AscValues, WellFormed, HashLast}
 use Rattle.held.proofs.Orders.{Order, Tri, lower, alike, higher, tri, same-sym, lex-head, lex-tail, byte-order, level-order, filter-order, pair-order}
 use Rattle.held.proofs.Stores.{Before, below-append, asc-append}
 use Rattle.held.proofs.Sets.{member-put, member-keep, set-put, set-keep}
@@ -157,7 +157,7 @@ module _ (F : Forest ℕ) (r : Rows F) (w : Owns AscValues F) (g : Level) (gs : 
 
 -- what the changes keep
 module _ {X : Type 0} (P : List X → Type 0) (u : List X → List X) (none-ok : P []) (ok : (v : List X) → P v → P (u v)) where
-  own-ok : (gs : Filter) (v : List X) → P v → P (ownAt u gs v)
+  own-ok : (gs : Filter) (v : List X) → P v → P (editOwn u gs v)
   own-ok [] v h = ok v h
   own-ok (g ∷ gs) v h = h
 
@@ -173,7 +173,7 @@ module _ {X : Type 0} (P : List X → Type 0) (u : List X → List X) (none-ok :
   owns-grow (g ∷ gs) (fork t v k n) w = go (levelLt g t) (levelLt t g) (owns-grow gs k (w .1)) (owns-grow (g ∷ gs) n (w .2))
     where
       go : (a b : Bool) → Owns P (growF u gs k) → Owns P (growF u (g ∷ gs) n)
-          → Owns P (cond a (fork g (ownAt u gs []) (chain u gs) (fork t v k n)) (cond b (fork t v k (growF u (g ∷ gs) n)) (fork t (ownAt u gs v) (growF u gs k) n)))
+          → Owns P (cond a (fork g (editOwn u gs []) (chain u gs) (fork t v k n)) (cond b (fork t v k (growF u (g ∷ gs) n)) (fork t (editOwn u gs v) (growF u gs k) n)))
       go true b i j = (own-ok gs [] none-ok, owns-chain gs, w)
       go false true i j = (w .0, w .1, j)
       go false false i j = (own-ok gs v (w .0), i, w .2)
@@ -190,8 +190,8 @@ module _ {X : Type 0} (P : List X → Type 0) (u : List X → List X) (none-ok :
   owns-cut [] (fork t v k n) w = w
   owns-cut (g ∷ gs) (fork t v k n) w = go (same g t) (owns-cut gs k (w .1)) (owns-cut (g ∷ gs) n (w .2))
     where
-      go : (c : Bool) → Owns P (cutF u gs k) → Owns P (cutF u (g ∷ gs) n) → Owns P (cond c (pruned t (ownAt u gs v) (cutF u gs k) n) (fork t v k (cutF u (g ∷ gs) n)))
-      go true i j = owns-pruned t (ownAt u gs v) (cutF u gs k) n (own-ok gs v (w .0)) i (w .2)
+      go : (c : Bool) → Owns P (cutF u gs k) → Owns P (cutF u (g ∷ gs) n) → Owns P (cond c (pruned t (editOwn u gs v) (cutF u gs k) n) (fork t v k (cutF u (g ∷ gs) n)))
+      go true i j = owns-pruned t (editOwn u gs v) (cutF u gs k) n (own-ok gs v (w .0)) i (w .2)
       go false i j = (w .0, w .1, j)
 
 module _ {X : Type 0} (u : List X → List X) where
@@ -230,8 +230,8 @@ module _ {X : Type 0} (u : List X → List X) where
   ends-cut [] (fork t v k n) e = e
   ends-cut (g ∷ gs) (fork t v k n) e = go (same g t) (ends-cut gs k (e .1)) (ends-cut (g ∷ gs) n (e .2))
     where
-      go : (c : Bool) → HashEnds (cutF u gs k) → HashEnds (cutF u (g ∷ gs) n) → HashEnds (cond c (pruned t (ownAt u gs v) (cutF u gs k) n) (fork t v k (cutF u (g ∷ gs) n)))
-      go true i j = ends-pruned t (ownAt u gs v) (cutF u gs k) n (λ q. ap (cutF u gs) (e .0 q)) i (e .2)
+      go : (c : Bool) → HashEnds (cutF u gs k) → HashEnds (cutF u (g ∷ gs) n) → HashEnds (cond c (pruned t (editOwn u gs v) (cutF u gs k) n) (fork t v k (cutF u (g ∷ gs) n)))
+      go true i j = ends-pruned t (editOwn u gs v) (cutF u gs k) n (λ q. ap (cutF u gs) (e .0 q)) i (e .2)
       go false i j = (e .0, e .1, j)
 
   pub full-pruned : (t : Level) (v : List X) (k n : Forest X) → Full k → Full n → Full (pruned t v k n)
@@ -253,8 +253,8 @@ module _ {X : Type 0} (u : List X → List X) where
   full-cut [] (fork t v k n) e = e
   full-cut (g ∷ gs) (fork t v k n) e = go (same g t) (full-cut gs k (e .1)) (full-cut (g ∷ gs) n (e .2))
     where
-      go : (c : Bool) → Full (cutF u gs k) → Full (cutF u (g ∷ gs) n) → Full (cond c (pruned t (ownAt u gs v) (cutF u gs k) n) (fork t v k (cutF u (g ∷ gs) n)))
-      go true i j = full-pruned t (ownAt u gs v) (cutF u gs k) n i (e .2)
+      go : (c : Bool) → Full (cutF u gs k) → Full (cutF u (g ∷ gs) n) → Full (cond c (pruned t (editOwn u gs v) (cutF u gs k) n) (fork t v k (cutF u (g ∷ gs) n)))
+      go true i j = full-pruned t (editOwn u gs v) (cutF u gs k) n i (e .2)
       go false i j = (e .0, e .1, j)
 
   module _ (some-ok : (v : List X) → u v ≡ [] → ⊥) where
@@ -270,12 +270,12 @@ module _ {X : Type 0} (u : List X → List X) where
     grow-some h hs leaf q = let z : true ≡ false = cc in true≢false z
     grow-some h hs (fork t v k n) q = go (levelLt h t) (levelLt t h) q
       where
-        go : (a b : Bool) → cond a (fork h (ownAt u hs []) (chain u hs) (fork t v k n)) (cond b (fork t v k (growF u (h ∷ hs) n)) (fork t (ownAt u hs v) (growF u hs k) n)) ≡ leaf → ⊥
+        go : (a b : Bool) → cond a (fork h (editOwn u hs []) (chain u hs) (fork t v k n)) (cond b (fork t v k (growF u (h ∷ hs) n)) (fork t (editOwn u hs v) (growF u hs k) n)) ≡ leaf → ⊥
         go true b q = let z : true ≡ false = cc in true≢false z
         go false true q = let z : true ≡ false = cc in true≢false z
         go false false q = let z : true ≡ false = cc in true≢false z
 
-    own-full : (gs : Filter) (v : List X) (k : Forest X) → ownAt u gs v ≡ [] → growF u gs k ≡ leaf → ⊥
+    own-full : (gs : Filter) (v : List X) (k : Forest X) → editOwn u gs v ≡ [] → growF u gs k ≡ leaf → ⊥
     own-full [] v k p q = some-ok v p
     own-full (h ∷ hs) v k p q = grow-some h hs k q
 
@@ -286,7 +286,7 @@ module _ {X : Type 0} (u : List X → List X) where
     full-grow (g ∷ gs) (fork t v k n) e = go (levelLt g t) (levelLt t g) (full-grow gs k (e .1)) (full-grow (g ∷ gs) n (e .2))
       where
         go : (a b : Bool) → Full (growF u gs k) → Full (growF u (g ∷ gs) n)
-            → Full (cond a (fork g (ownAt u gs []) (chain u gs) (fork t v k n)) (cond b (fork t v k (growF u (g ∷ gs) n)) (fork t (ownAt u gs v) (growF u gs k) n)))
+            → Full (cond a (fork g (editOwn u gs []) (chain u gs) (fork t v k n)) (cond b (fork t v k (growF u (g ∷ gs) n)) (fork t (editOwn u gs v) (growF u gs k) n)))
         go true b i j = (own-full gs [] leaf, full-chain gs, e)
         go false true i j = (e .0, e .1, j)
         go false false i j = (own-full gs v k, i, e .2)

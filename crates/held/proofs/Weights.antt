@@ -7,7 +7,7 @@ use native.Mathlib.Omega.{arith}
 use Rattle.level.specs.Kinds.{same}
 use Rattle.held.specs.Order.{Level, Filter, levelLt}
 use Rattle.held.specs.Forest.{Forest, leaf, fork, miss, kid, Over, Rows}
-use Rattle.held.specs.Edit.{ownAt, chain, growF, pruned, cutF, weighF, missing, weigh, lost, gone}
+use Rattle.held.specs.Edit.{editOwn, chain, growF, pruned, cutF, weighF, missing, weigh, lost, gone}
 use Rattle.held.proofs.Orders.{Tri, lower, alike, higher, tri, eq-higher, level-order}
 use Rattle.held.proofs.Walks.{kid-over}
 use Rattle.held.proofs.Edits.{over-mono}
@@ -56,7 +56,7 @@ module _ {X : Type 0} (c : Level → ℕ) (u : List X → List X) where
   unfolding kid cutF weighF gone
   cut-weigh t g gs v k n a b true e =
       let z : g ≡ t = level-order .eq-true g t e in
-      rw (e, z) (omega (arith, weigh-pruned t (ownAt u gs v) (cutF u gs k) n (gone u gs k), a))
+      rw (e, z) (omega (arith, weigh-pruned t (editOwn u gs v) (cutF u gs k) n (gone u gs k), a))
   cut-weigh t g gs v k n a b false e = rw e (omega (arith, b))
 
   pub weigh-cut : (F : Forest X) (p : Filter) → weighF c (cutF u p F) + weigh c (gone u p F) ≡ weighF c F

@@ -11,22 +11,22 @@ use Rattle.held.specs.Room.{levelCells}
 use Rattle.held.specs.Forest.{Forest, leaf, fork, Hit, miss, hit, kid, Rows, HashEnds}
 
 -- u is done where the path ends
-abbrev pub ownAt : {X : Type 0} → (List X → List X) → Filter → List X → List X
-ownAt u [] v = u v
-ownAt u (h ∷ hs) v = v
+abbrev pub editOwn : {X : Type 0} → (List X → List X) → Filter → List X → List X
+editOwn u [] v = u v
+editOwn u (h ∷ hs) v = v
 
 -- new nodes for a path
 unfoldable pub chain : {X : Type 0} → (List X → List X) → Filter → Forest X
 chain u [] = leaf
-chain u (g ∷ gs) = fork g (ownAt u gs []) (chain u gs) leaf
+chain u (g ∷ gs) = fork g (editOwn u gs []) (chain u gs) leaf
 
 -- u is done to what stands at a path, whose nodes are made where they are not there
 unfoldable pub growF : {X : Type 0} → (List X → List X) → Filter → Forest X → Forest X
 growF u f leaf = chain u f
 growF u [] (fork t v k n) = fork t v k n
 growF u (g ∷ gs) (fork t v k n) =
-    cond (levelLt g t) (fork g (ownAt u gs []) (chain u gs) (fork t v k n))
-    (cond (levelLt t g) (fork t v k (growF u (g ∷ gs) n)) (fork t (ownAt u gs v) (growF u gs k) n))
+    cond (levelLt g t) (fork g (editOwn u gs []) (chain u gs) (fork t v k n))
+    (cond (levelLt t g) (fork t v k (growF u (g ∷ gs) n)) (fork t (editOwn u gs v) (growF u gs k) n))
 
 -- a node in front of a row, unless it holds nothing and has no children
 unfoldable pub pruned : {X : Type 0} → Level → List X → Forest X → Forest X → Forest X
@@ -38,7 +38,7 @@ pruned t (x ∷ v) k n = fork t (x ∷ v) k n
 unfoldable pub cutF : {X : Type 0} → (List X → List X) → Filter → Forest X → Forest X
 cutF u f leaf = leaf
 cutF u [] (fork t v k n) = fork t v k n
-cutF u (g ∷ gs) (fork t v k n) = cond (same g t) (pruned t (ownAt u gs v) (cutF u gs k) n) (fork t v k (cutF u (g ∷ gs) n))
+cutF u (g ∷ gs) (fork t v k n) = cond (same g t) (pruned t (editOwn u gs v) (cutF u gs k) n) (fork t v k (cutF u (g ∷ gs) n))
 
 -- what does not pass q goes, everywhere
 unfoldable pub sweepF : {X : Type 0} → (X → Bool) → Forest X → Forest X
@@ -148,4 +148,4 @@ goneAt (hit v k) r = r v k
 
 unfoldable pub gone : {X : Type 0} → (List X → List X) → Filter → Forest X → Filter
 gone u [] F = []
-gone u (g ∷ gs) F = goneAt (kid g F) (λ v k. lost g (ownAt u gs v) (cutF u gs k) (gone u gs k))
+gone u (g ∷ gs) F = goneAt (kid g F) (λ v k. lost g (editOwn u gs v) (cutF u gs k) (gone u gs k))

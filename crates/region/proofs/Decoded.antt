@@ -13,7 +13,7 @@ use Rattle.held.specs.Bytes.{each}
 use Rattle.held.specs.Forest.{Forest, leaf, fork}
 use Rattle.region.specs.Layout.{levelUnits, rowUnits, unitsF, headBytes, levelBytes, rowBytes, unitBytes}
 use Rattle.held.specs.Ascending.{All}
-use Rattle.region.specs.Decode.{lenOf, ownOf, belowOf, unitsTo, ownAt, rowEnd, decodeTo, decode}
+use Rattle.region.specs.Decode.{lenOf, ownOf, belowOf, unitsTo, ownPlace, restPlace, decodeTo, decode}
 
 -- how something is written in 16 bytes, how it is read, and which of them fit there
 pub record Form (X : Type 0) : Type 1 where
@@ -94,14 +94,14 @@ module _ {X : Type 0} (u : Form X) where
     pub row-level : part 8 (lenOf (rowBytes (u .write) l v below ++ rest)) (rowBytes (u .write) l v below ++ rest) ≡ l
     row-level = rw (row-len, shape) (level-read l (length v) below (each (u .write) v ++ rest))
 
-    pub row-holds : unitsTo (u .read) (ownOf (rowBytes (u .write) l v below ++ rest)) (drop (ownAt (rowBytes (u .write) l v below ++ rest)) (rowBytes (u .write) l v below ++ rest)) ≡ v
+    pub row-holds : unitsTo (u .read) (ownOf (rowBytes (u .write) l v below ++ rest)) (drop (ownPlace (rowBytes (u .write) l v below ++ rest)) (rowBytes (u .write) l v below ++ rest)) ≡ v
     row-holds =
         let n : length (headBytes l (length v) below ++ levelBytes l) ≡ levelUnits l * 16 = rw (length-append, length-head) (length-level l) in
         let d : drop (levelUnits l * 16) (rowBytes (u .write) l v below ++ rest) ≡ each (u .write) v ++ rest =
         rw (shape, ← append-assoc (headBytes l (length v) below)) (drop-at (headBytes l (length v) below ++ levelBytes l) _ (levelUnits l * 16) n) in
         rw (row-own, row-len, d) (units-read v small rest)
 
-    pub row-rest : drop (rowEnd (rowBytes (u .write) l v below ++ rest)) (rowBytes (u .write) l v below ++ rest) ≡ rest
+    pub row-rest : drop (restPlace (rowBytes (u .write) l v below ++ rest)) (rowBytes (u .write) l v below ++ rest) ≡ rest
     row-rest = rw (row-len, row-own) (drop-at (rowBytes (u .write) l v below) rest (rowUnits l v * 16) (length-row u l v below))
 
 -- a turn of the decoder
@@ -116,20 +116,20 @@ module _ {X : Type 0} (read : List ℕ → X) (m : ℕ) (w : List ℕ) where
       go (suc m) (b ∷ w) h = absurd (omega arith)
 
   pub decode-some : 0 < length w → decodeTo read (suc m) w
-      ≡ fork (part 8 (lenOf w) w) (unitsTo read (ownOf w) (drop (ownAt w) w))
-      (decodeTo read m (take (belowOf w * 16) (drop (rowEnd w) w))) (decodeTo read m (drop (belowOf w * 16) (drop (rowEnd w) w)))
+      ≡ fork (part 8 (lenOf w) w) (unitsTo read (ownOf w) (drop (ownPlace w) w))
+      (decodeTo read m (take (belowOf w * 16) (drop (restPlace w) w))) (decodeTo read m (drop (belowOf w * 16) (drop (restPlace w) w)))
   unfolding decodeTo
   decode-some h = some w h
     where
       some : (w : List ℕ) → 0 < length w → decodeTo read (suc m) w
-          ≡ fork (part 8 (lenOf w) w) (unitsTo read (ownOf w) (drop (ownAt w) w))
-          (decodeTo read m (take (belowOf w * 16) (drop (rowEnd w) w))) (decodeTo read m (drop (belowOf w * 16) (drop (rowEnd w) w)))
+          ≡ fork (part 8 (lenOf w) w) (unitsTo read (ownOf w) (drop (ownPlace w) w))
+          (decodeTo read m (take (belowOf w * 16) (drop (restPlace w) w))) (decodeTo read m (drop (belowOf w * 16) (drop (restPlace w) w)))
       some [] h = absurd (omega arith)
       some (b ∷ w) h = refl
 
 -- any number of turns from the length on decodes the same
 module _ {X : Type 0} (read : List ℕ → X) where
-  shorter : (w : List ℕ) → 0 < length w → length (drop (rowEnd w) w) < length w
+  shorter : (w : List ℕ) → 0 < length w → length (drop (restPlace w) w) < length w
   shorter w h = rw length-drop (omega arith)
 
   enough : (m n : ℕ) (w : List ℕ) → length w ≤ m → length w ≤ n → decodeTo read m w ≡ decodeTo read n w
@@ -138,26 +138,26 @@ module _ {X : Type 0} (read : List ℕ → X) where
   enough (suc m) (suc n) [] p q = decode-none read (suc m) [] refl ∙ sym (decode-none read (suc n) [] refl)
   enough (suc m) (suc n) (b ∷ w) p q =
       let h = shorter (b ∷ w) (omega arith) in
-      let a : length (take (belowOf (b ∷ w) * 16) (drop (rowEnd (b ∷ w)) (b ∷ w))) ≤ length w = rw length-take (omega arith) in
-      let c : length (drop (belowOf (b ∷ w) * 16) (drop (rowEnd (b ∷ w)) (b ∷ w))) ≤ length w = rw (length-drop (belowOf (b ∷ w) * 16)) (omega arith) in
+      let a : length (take (belowOf (b ∷ w) * 16) (drop (restPlace (b ∷ w)) (b ∷ w))) ≤ length w = rw length-take (omega arith) in
+      let c : length (drop (belowOf (b ∷ w) * 16) (drop (restPlace (b ∷ w)) (b ∷ w))) ≤ length w = rw (length-drop (belowOf (b ∷ w) * 16)) (omega arith) in
       decode-some read m (b ∷ w) (omega arith)
-      ∙ rw (enough m n (take (belowOf (b ∷ w) * 16) (drop (rowEnd (b ∷ w)) (b ∷ w))) (omega arith) (omega arith), enough m n (drop (belowOf (b ∷ w) * 16) (drop (rowEnd (b ∷ w)) (b ∷ w))) (omega arith) (omega arith))
+      ∙ rw (enough m n (take (belowOf (b ∷ w) * 16) (drop (restPlace (b ∷ w)) (b ∷ w))) (omega arith) (omega arith), enough m n (drop (belowOf (b ∷ w) * 16) (drop (restPlace (b ∷ w)) (b ∷ w))) (omega arith) (omega arith))
       (sym (decode-some read n (b ∷ w) (omega arith)))
 
   -- one row off the front
   pub decode-step : (w : List ℕ) → 0 < length w → decode read w
-      ≡ fork (part 8 (lenOf w) w) (unitsTo read (ownOf w) (drop (ownAt w) w))
-      (decode read (take (belowOf w * 16) (drop (rowEnd w) w))) (decode read (drop (belowOf w * 16) (drop (rowEnd w) w)))
+      ≡ fork (part 8 (lenOf w) w) (unitsTo read (ownOf w) (drop (ownPlace w) w))
+      (decode read (take (belowOf w * 16) (drop (restPlace w) w))) (decode read (drop (belowOf w * 16) (drop (restPlace w) w)))
   unfolding decode
   decode-step [] h = absurd (omega arith)
   decode-step (b ∷ w) h =
       let g = shorter (b ∷ w) h in
-      let a : length (take (belowOf (b ∷ w) * 16) (drop (rowEnd (b ∷ w)) (b ∷ w))) ≤ length w = rw length-take (omega arith) in
-      let c : length (drop (belowOf (b ∷ w) * 16) (drop (rowEnd (b ∷ w)) (b ∷ w))) ≤ length w = rw (length-drop (belowOf (b ∷ w) * 16)) (omega arith) in
+      let a : length (take (belowOf (b ∷ w) * 16) (drop (restPlace (b ∷ w)) (b ∷ w))) ≤ length w = rw length-take (omega arith) in
+      let c : length (drop (belowOf (b ∷ w) * 16) (drop (restPlace (b ∷ w)) (b ∷ w))) ≤ length w = rw (length-drop (belowOf (b ∷ w) * 16)) (omega arith) in
       decode-some read (length w) (b ∷ w) h
       ∙ rw (
-        enough (length w) (length (take (belowOf (b ∷ w) * 16) (drop (rowEnd (b ∷ w)) (b ∷ w)))) (take (belowOf (b ∷ w) * 16) (drop (rowEnd (b ∷ w)) (b ∷ w))) a (omega arith),
-        enough (length w) (length (drop (belowOf (b ∷ w) * 16) (drop (rowEnd (b ∷ w)) (b ∷ w)))) (drop (belowOf (b ∷ w) * 16) (drop (rowEnd (b ∷ w)) (b ∷ w))) c (omega arith),
+        enough (length w) (length (take (belowOf (b ∷ w) * 16) (drop (restPlace (b ∷ w)) (b ∷ w)))) (take (belowOf (b ∷ w) * 16) (drop (restPlace (b ∷ w)) (b ∷ w))) a (omega arith),
+        enough (length w) (length (drop (belowOf (b ∷ w) * 16) (drop (restPlace (b ∷ w)) (b ∷ w)))) (drop (belowOf (b ∷ w) * 16) (drop (restPlace (b ∷ w)) (b ∷ w))) c (omega arith),
       )
 
 -- what was written down is read back

@@ -30,9 +30,12 @@ unitRoom r = r .nodes + r .pairs + r .cells
 abbrev pub neededBytes : Room → ℕ
 neededBytes r = 64 + 17 * unitRoom r
 
--- the units of a level's head and bytes; of a row; of a forest
+-- the units of a head of 8 bytes and a level of n; of a level; of a row; of a forest
+abbrev pub unitsFor : ℕ → ℕ
+unitsFor n = (n + 23) / 16
+
 abbrev pub levelUnits : Level → ℕ
-levelUnits l = (length l + 23) / 16
+levelUnits l = unitsFor (length l)
 
 abbrev pub rowUnits : {X : Type 0} → Level → List X → ℕ
 rowUnits l v = levelUnits l + length v

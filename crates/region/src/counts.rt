@@ -1,4 +1,5 @@
-// The counts that a region keeps in its header: what is in use.
+// The counts that a region keeps in its header: what is in use. They are read as they stand; whether the region is a store
+// is for the caller to test first.
 ghost use mathlib.Core.Path.{_≡_};
 ghost use Rattle.lent.specs.Total.{read};
 use crate::Cells;
