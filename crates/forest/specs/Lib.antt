@@ -1,2 +1,4 @@
 pub mod Places
 pub mod Compare
+pub mod Stands
+pub mod Paths

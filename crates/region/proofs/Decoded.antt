@@ -13,20 +13,8 @@ use Rattle.held.specs.Bytes.{each}
 use Rattle.held.specs.Forest.{Forest, leaf, fork}
 use Rattle.region.specs.Layout.{levelUnits, rowUnits, unitsF, headBytes, levelBytes, rowBytes, unitBytes}
 use Rattle.held.specs.Ascending.{All}
+use Rattle.region.specs.Forms.{Form, Fits, leaf-fits, fork-fits}
 use Rattle.region.specs.Decode.{lenOf, ownOf, belowOf, unitsTo, ownPlace, restPlace, decodeTo, decode}
-
--- how something is written in 16 bytes, how it is read, and which of them fit there
-pub record Form (X : Type 0) : Type 1 where
-  pub write : X → List ℕ
-  pub read : List ℕ → X
-  pub Small : X → Type 0
-  pub long : (x : X) → length (write x) ≡ 16
-  pub back : (x : X) → Small x → read (write x) ≡ x
-
--- numbers that fit their two bytes
-pub data Fits {X : Type 0} (u : Form X) : Forest X → Type 0 where
-  leaf-fits : Fits u leaf
-  fork-fits : {l : Level} {v : List X} {k n : Forest X} → length l < 65536 → length v < 65536 → unitsF k < 65536 → All (u .Small) v → Fits u k → Fits u n → Fits u (fork l v k n)
 
 pub length-head : (l : Level) (own below : ℕ) → length (headBytes l own below) ≡ 8
 unfolding headBytes bytes
@@ -165,7 +153,7 @@ module _ {X : Type 0} (u : Form X) where
   some-units : (l : Level) (v : List X) → 0 < rowUnits l v
   some-units l v = omega arith
 
-  decode-from : (F : Forest X) → Fits u F → (m : ℕ) → unitsF F ≤ m → decodeTo (u .read) m (unitBytes (u .write) F) ≡ F
+  decode-from : (F : Forest X) → Fits (u .Small) F → (m : ℕ) → unitsF F ≤ m → decodeTo (u .read) m (unitBytes (u .write) F) ≡ F
   unfolding unitBytes unitsF
   decode-from leaf f m h = decode-none (u .read) m [] refl
   decode-from (fork l v k n) (fork-fits hl hv hk small fk fn) zero h = absurd (omega (arith, some-units l v))
@@ -185,6 +173,6 @@ module _ {X : Type 0} (u : Form X) where
         decode-from n fn m (omega arith),
       )
 
-  pub decode-units : (F : Forest X) → Fits u F → decode (u .read) (unitBytes (u .write) F) ≡ F
+  pub decode-units : (F : Forest X) → Fits (u .Small) F → decode (u .read) (unitBytes (u .write) F) ≡ F
   unfolding decode
   decode-units F f = decode-from F f (length (unitBytes (u .write) F)) (rw (length-units u F) (omega arith))

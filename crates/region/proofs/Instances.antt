@@ -4,13 +4,15 @@ use mathlib.Core.Bool.{cond}
 use mathlib.Core.List.{List, [], _∷_, _++_}
 use mathlib.Core.Option.{Option, none, some}
 use Prim.Native.Nat.{ℕ, _^_, _<_}
-use lib.ListN.{length, length-append}
+use lib.ListN.{length, replicate, length-append, length-take, length-replicate}
+use lib.Seq.{take-at}
+use native.Mathlib.Omega.{arith}
 use Rattle.lent.specs.Numbers.{bytes, be}
 use Rattle.lent.specs.Parts.{part}
 use Rattle.lent.proofs.Digits.{length-bytes, be-bytes}
 use Rattle.held.specs.Retained.{Stored}
 use Rattle.region.specs.Units.{valueBytes, valueOf, momentBytes, storedBytes, storedOf}
-use Rattle.region.proofs.Decoded.{Form}
+use Rattle.region.specs.Forms.{Form, whole, Whole}
 
 value-long : (v : ℕ) → length (valueBytes v) ≡ 16
 unfolding valueBytes bytes
@@ -53,3 +55,15 @@ stored-back s f = moment-back (s .handle) (s .moment) (f .handle) (f .moment)
 
 pub records : Form Stored
 records = record { write = storedBytes; read = storedOf; Small = SmallStored; long = stored-long; back = stored-back }
+
+-- a unit as it stands
+whole-long : (w : List ℕ) → length (whole w) ≡ 16
+unfolding whole
+whole-long w = rw (length-take, length-append, length-replicate) (omega arith)
+
+pub whole-back : (w : List ℕ) → length w ≡ 16 → whole w ≡ w
+unfolding whole
+whole-back w h = take-at w (replicate 16 0) 16 h
+
+pub wholes : Form (List ℕ)
+wholes = record { write = whole; read = λ w. w; Small = Whole; long = whole-long; back = whole-back }

@@ -1,5 +1,6 @@
 pub mod Layout
 pub mod Units
+pub mod Forms
 pub mod Opening
 pub mod Decode
 pub mod Store
