@@ -4,3 +4,4 @@ pub mod BelowLaws
 pub mod Gaps
 pub mod ReachLaws
 pub mod RunLaws
+pub mod MakeLaws

@@ -252,11 +252,12 @@ module _ (tx : List ℕ) (from nodes cells units p : ℕ) (r : WantedLeft tx fro
         units-most = omega (arith, r .units-most);
       }
 
-  pub wanted-end : length tx < p → WantedFor (levelsAt tx from) (record { nodes = nodes; cells = cells; units = units })
+  pub wanted-end : length tx < p → WantedFor (levelsAt tx from) (record { nodes = nodes; pairs = 1; cells = cells; units = units })
   wanted-end h =
       let n : levelsAt tx p ≡ [] = levels-none tx p h in
       record {
         nodes-are = omega (arith, r .nodes-left, ap length n);
+        pairs-are = refl;
         cells-are = omega (arith, r .cells-left, ap (weigh levelCells) n);
         units-are = omega (arith, r .units-left, ap runUnits n, units-none);
       }

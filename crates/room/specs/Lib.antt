@@ -1,4 +1,4 @@
 pub mod Ways
-pub mod Changes
 pub mod Reach
 pub mod Runs
+pub mod Changes

@@ -8,7 +8,7 @@ use Rattle.held.specs.Order.{Filter}
 use Rattle.held.specs.Room.{levelCells}
 use Rattle.held.specs.Edit.{weigh}
 use Rattle.region.specs.Layout.{levelUnits, headBytes, levelBytes}
-use Rattle.room.specs.declared.Wanted.{Wanted}
+use Rattle.room.specs.declared.Load.{Load}
 
 -- how many units
 unfoldable pub runUnits : Filter → ℕ
@@ -31,7 +31,8 @@ runMarks d [] = 255 ∷ []
 runMarks d (g ∷ gs) = (d ∷ replicate (levelUnits g - 1) 255) ++ runMarks (d + 1) gs
 
 -- what new nodes for some levels take
-pub record WantedFor (gs : Filter) (r : Wanted) : Type 0 where
+pub record WantedFor (gs : Filter) (r : Load) : Type 0 where
   pub nodes-are : r .nodes ≡ length gs
+  pub pairs-are : r .pairs ≡ 1
   pub cells-are : r .cells ≡ weigh levelCells gs
   pub units-are : r .units ≡ runUnits gs

@@ -9,7 +9,7 @@ ghost use Rattle.held.specs.Room.{levelCells};
 ghost use Rattle.region.specs.Layout.{levelUnits, headBytes, levelBytes};
 ghost use Rattle.forest.specs.Places.{unitAt};
 ghost use Rattle.room.specs.Runs.{runUnits, lastOwn, runBytes, runMarks, WantedFor};
-use crate::Wanted;
+use crate::Load;
 
 // A row without what its node holds: the head, and the level filled up to whole units.
 fn put_row(s: &mut [u8], at: usize, level: &[u8], own: usize, below: usize)
@@ -103,8 +103,8 @@ fn cells_of(level: &[u8]) -> usize
     (level.len() + 15) / 16
 }
 
-// What new nodes for the levels of a text from place `from` on would take.
-pub fn wanted_for(text: &[u8], from: usize) -> Wanted
+// What new nodes for the levels of a text from place `from` on would take, where the last holds one.
+pub fn wanted_for(text: &[u8], from: usize) -> Load
     requires { ⌜ length (now text) ≤ 65535 ⌝ }
     ensures { λ r. ⌜ WantedFor (levelsAt (now (text .entry)) from) r ⌝ }
 {
@@ -119,8 +119,9 @@ pub fn wanted_for(text: &[u8], from: usize) -> Wanted
         units += (level.len() + 23) / 16;
         p += level.len() + 1;
     }
-    Wanted {
+    Load {
         nodes,
+        pairs: 1,
         cells,
         units,
     }

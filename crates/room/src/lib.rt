@@ -1,9 +1,13 @@
 // Making room in a region and taking it away.
+mod below;
 mod chain;
+mod counts;
+mod make;
 
-// How much new nodes take: nodes, text cells, and units with the one that the last holds.
-pub struct Wanted {
+// What something takes of a region: nodes, pairs, text cells, and units.
+pub struct Load {
     pub nodes: usize,
+    pub pairs: usize,
     pub cells: usize,
     pub units: usize,
 }
