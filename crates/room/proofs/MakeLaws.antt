@@ -3,7 +3,7 @@ use mathlib.Core.Path.{_≡_, refl, sym, ap, _∙_}
 use mathlib.Core.List.{List, [], _∷_}
 use Prim.Native.Nat.{ℕ, _+_, _-_, _*_, _≤_, _<_}
 use native.Mathlib.Omega.{arith}
-use lib.ListN.{length}
+use lib.ListN.{length, replicate}
 use Rattle.lent.specs.Parts.{part, patch}
 use Rattle.lent.specs.Total.{write, opened, closed}
 use Rattle.lent.proofs.Parts.{length-part, length-patch}
@@ -12,7 +12,7 @@ use Rattle.forest.specs.Places.{unitAt}
 use Rattle.held.specs.Order.{Filter}
 use Rattle.room.specs.declared.Load.{Load}
 use Rattle.room.specs.Runs.{runUnits, runBytes, runMarks}
-use Rattle.room.specs.Changes.{counted, belows, countsMoved, madeRun, noLoad, madeChain}
+use Rattle.room.specs.Changes.{counted, belows, countsMoved, noLoad, oneLoad, madeRun, madeChain, madeUnit, takenRun, takenChain, takenUnit}
 use Rattle.room.proofs.RunLaws.{length-run, length-run-marks}
 
 pub length-counted : (at more less : ℕ) (s : List ℕ) → length (counted at more less s) ≡ length s
@@ -68,3 +68,23 @@ pub chain-made : (base n place d : ℕ) (nodes x : List ℕ) (gs : Filter) (load
     → t ≡ madeRun base n nodes place d x gs (load .units) s → u ≡ countsMoved load noLoad t → u ≡ madeChain base n nodes place d x gs load s
 unfolding madeChain
 chain-made base n place d nodes x gs load s t u a b = rw a at b
+
+pub unit-made : (base n node at : ℕ) (nodes x s s₁ s₂ s₃ s₄ s₅ s₆ s₇ : List ℕ)
+    → s₁ ≡ belows 1 0 base nodes s → s₂ ≡ counted (base + node * 16 + 2) 1 0 s₁ → s₃ ≡ opened (base + at * 16) (base + n * 16) 16 s₂ → s₄ ≡ write (base + at * 16) x s₃
+    → s₅ ≡ opened (64 + at) (64 + n) 1 s₄ → s₆ ≡ write (64 + at) (replicate 1 255) s₅ → s₇ ≡ countsMoved oneLoad noLoad s₆ → s₇ ≡ madeUnit base n nodes node at x s
+unfolding madeUnit
+unit-made base n node at nodes x s s₁ s₂ s₃ s₄ s₅ s₆ s₇ a b c d e f g = rw (f, e, d, c, b, a) at g
+
+pub run-taken : (base n at c : ℕ) (nodes s s₁ s₂ s₃ : List ℕ) → s₁ ≡ belows 0 c base nodes s → s₂ ≡ closed (base + at * 16) (base + (n - c) * 16) (c * 16) s₁
+    → s₃ ≡ closed (64 + at) (64 + (n - c)) c s₂ → s₃ ≡ takenRun base n nodes at c s
+unfolding takenRun
+run-taken base n at c nodes s s₁ s₂ s₃ d e f = rw (e, d) at f
+
+pub chain-taken : (base n at : ℕ) (nodes : List ℕ) (load : Load) (s t u : List ℕ) → t ≡ takenRun base n nodes at (load .units) s → u ≡ countsMoved noLoad load t → u ≡ takenChain base n nodes at load s
+unfolding takenChain
+chain-taken base n at nodes load s t u a b = rw a at b
+
+pub unit-taken : (base n node at : ℕ) (nodes s s₁ s₂ s₃ : List ℕ) → s₁ ≡ counted (base + node * 16 + 2) 0 1 s → s₂ ≡ takenRun base n nodes at 1 s₁ → s₃ ≡ countsMoved noLoad oneLoad s₂
+    → s₃ ≡ takenUnit base n nodes node at s
+unfolding takenUnit
+unit-taken base n node at nodes s s₁ s₂ s₃ a b c = rw (b, a) at c

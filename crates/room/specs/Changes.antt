@@ -26,6 +26,13 @@ unfoldable pub countsMoved : (more less : Load) → List ℕ → List ℕ
 countsMoved a b s =
     counted 16 (a .units) (b .units) (counted 14 (a .cells) (b .cells) (counted 12 (a .pairs) (b .pairs) (counted 10 (a .nodes) (b .nodes) s)))
 
+-- nothing, and a pair with its unit
+abbrev pub noLoad : Load
+noLoad = record { nodes = 0; pairs = 0; cells = 0; units = 0 }
+
+abbrev pub oneLoad : Load
+oneLoad = record { nodes = 0; pairs = 1; cells = 0; units = 1 }
+
 -- what fits two bytes
 pub record SmallLoad (l : Load) : Type 0 where
   pub nodes-small : l .nodes < 65536
@@ -48,8 +55,26 @@ madeRun base n nodes place d x gs c s =
     (opened (unitAt base place) (unitAt base n) (c * 16) (belows c 0 base nodes s))))
 
 -- and the counts
-abbrev pub noLoad : Load
-noLoad = record { nodes = 0; pairs = 0; cells = 0; units = 0 }
-
 unfoldable pub madeChain : (base n : ℕ) (nodes : List ℕ) (place d : ℕ) (x : List ℕ) (gs : Filter) (load : Load) → List ℕ → List ℕ
 madeChain base n nodes place d x gs load s = countsMoved load noLoad (madeRun base n nodes place d x gs (load .units) s)
+
+-- the unit x before unit `at`, for a node below some nodes
+unfoldable pub madeUnit : (base n : ℕ) (nodes : List ℕ) (node at : ℕ) (x : List ℕ) → List ℕ → List ℕ
+madeUnit base n nodes node at x s =
+    countsMoved oneLoad noLoad
+    (write (64 + at) (255 ∷ [])
+    (opened (64 + at) (64 + n) 1
+    (write (unitAt base at) x
+    (opened (unitAt base at) (unitAt base n) 16 (counted (unitAt base node + 2) 1 0 (belows 1 0 base nodes s))))))
+
+-- c units and their marks taken away from unit `at` on, below some nodes; and the counts
+unfoldable pub takenRun : (base n : ℕ) (nodes : List ℕ) (at c : ℕ) → List ℕ → List ℕ
+takenRun base n nodes at c s =
+    closed (64 + at) (64 + (n - c)) c (closed (unitAt base at) (unitAt base (n - c)) (c * 16) (belows 0 c base nodes s))
+
+unfoldable pub takenChain : (base n : ℕ) (nodes : List ℕ) (at : ℕ) (load : Load) → List ℕ → List ℕ
+takenChain base n nodes at load s = countsMoved noLoad load (takenRun base n nodes at (load .units) s)
+
+-- unit `at` of a node taken away
+unfoldable pub takenUnit : (base n : ℕ) (nodes : List ℕ) (node at : ℕ) → List ℕ → List ℕ
+takenUnit base n nodes node at s = countsMoved noLoad oneLoad (takenRun base n nodes at 1 (counted (unitAt base node + 2) 0 1 s))

@@ -1,7 +1,7 @@
 // Numbers of two bytes that grow and fall with what a region holds.
 ghost use mathlib.Core.Path.{_≡_};
 ghost use Prim.Native.Nat.{_<_};
-ghost use Rattle.room.specs.Changes.{SmallLoad, moved, counted, countsMoved};
+ghost use Rattle.room.specs.Changes.{SmallLoad, moved, counted, countsMoved, noLoad, oneLoad};
 use crate::Load;
 
 // So many more, and so many less; 0 where that would be below 0.
@@ -30,4 +30,41 @@ pub fn move_counts(s: &mut [u8], more: Load, less: Load)
     move_count(s, 12, more.pairs, less.pairs);
     move_count(s, 14, more.cells, less.cells);
     move_count(s, 16, more.units, less.units);
+}
+
+// A pair more, and a pair less: each has one unit.
+pub fn add_pair(s: &mut [u8])
+    ensures { λ _. ⌜ now (s .exit) ≡ countsMoved oneLoad noLoad (now (s .entry)) ⌝ }
+{
+    let none = Load {
+        nodes: 0,
+        pairs: 0,
+        cells: 0,
+        units: 0,
+    };
+    let one = Load {
+        nodes: 0,
+        pairs: 1,
+        cells: 0,
+        units: 1,
+    };
+    move_counts(s, one, none);
+}
+
+pub fn take_pair(s: &mut [u8])
+    ensures { λ _. ⌜ now (s .exit) ≡ countsMoved noLoad oneLoad (now (s .entry)) ⌝ }
+{
+    let none = Load {
+        nodes: 0,
+        pairs: 0,
+        cells: 0,
+        units: 0,
+    };
+    let one = Load {
+        nodes: 0,
+        pairs: 1,
+        cells: 0,
+        units: 1,
+    };
+    move_counts(s, none, one);
 }

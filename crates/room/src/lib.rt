@@ -3,6 +3,7 @@ mod below;
 mod chain;
 mod counts;
 mod make;
+mod take;
 
 // What something takes of a region: nodes, pairs, text cells, and units.
 pub struct Load {

@@ -5,7 +5,7 @@ ghost use lib.ListN.{length, take};
 ghost use Rattle.level.specs.Places.{levelsAt};
 ghost use Rattle.forest.specs.Places.{unitAt};
 ghost use Rattle.room.specs.Runs.{runUnits, WantedFor};
-ghost use Rattle.room.specs.Changes.{Under, SmallLoad, madeRun, madeChain};
+ghost use Rattle.room.specs.Changes.{Under, SmallLoad, madeRun, madeChain, madeUnit};
 use crate::below;
 use crate::chain;
 use crate::counts;
@@ -62,4 +62,27 @@ pub fn make_chain(
         units: 0,
     };
     counts::move_counts(s, load, none);
+}
+
+// Puts `unit` before unit `at`, for the node at unit `node`, which stands below `depth` nodes.
+pub fn make_unit(
+    s: &mut [u8],
+    base: usize,
+    n: usize,
+    nodes: [usize; 128],
+    depth: usize,
+    node: usize,
+    at: usize,
+    unit: &[u8],
+)
+    requires { ⌜ (depth ≤ 128) × Under n (take depth nodes) × (node < n) × (at ≤ n) × (unitAt base (n + 1) ≤ length (now s)) × (64 + (n + 1) ≤ length (now s)) × (length (now unit) ≡ 16) ⌝ }
+    ensures { λ _. ⌜ now (s .exit) ≡ madeUnit base n (take depth nodes) node at (now (unit .entry)) (now (s .entry)) ⌝ }
+{
+    below::move_below(s, base, nodes, depth, n, 1, 0);
+    counts::move_count(s, base + node * 16 + 2, 1, 0);
+    lent::open_gap(s, base + at * 16, base + n * 16, 16);
+    lent::copy_in(s, base + at * 16, unit);
+    lent::open_gap(s, 64 + at, 64 + n, 1);
+    lent::fill(s, 64 + at, 1, 255);
+    counts::add_pair(s);
 }
