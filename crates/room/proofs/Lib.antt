@@ -5,3 +5,4 @@ pub mod Gaps
 pub mod ReachLaws
 pub mod RunLaws
 pub mod MakeLaws
+pub mod ViewLaws
