@@ -6,3 +6,5 @@ pub mod ReachLaws
 pub mod RunLaws
 pub mod MakeLaws
 pub mod ViewLaws
+pub mod ChainLaws
+pub mod HeaderLaws
