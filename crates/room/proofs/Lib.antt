@@ -8,3 +8,4 @@ pub mod MakeLaws
 pub mod ViewLaws
 pub mod ChainLaws
 pub mod HeaderLaws
+pub mod HoldsLaws
