@@ -9,3 +9,4 @@ pub mod ViewLaws
 pub mod ChainLaws
 pub mod HeaderLaws
 pub mod HoldsLaws
+pub mod PlaceLaws
