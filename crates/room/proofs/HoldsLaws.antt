@@ -36,7 +36,7 @@ module _ {X : Type 0} where
   weigh-plug c (past t v k ∷ w) G H = omega (arith, weigh-plug c w G H)
   weigh-plug c (down t v n ∷ w) G H = omega (arith, weigh-plug c w G H)
 
-  length-held : (t : Level) (v : List X) (k n : Forest X) → length (held (fork t v k n)) ≡ length v + (length (held k) + length (held n))
+  pub length-held : (t : Level) (v : List X) (k n : Forest X) → length (held (fork t v k n)) ≡ length v + (length (held k) + length (held n))
   unfolding held
   length-held t v k n = rw (length-append, length-append, length-map, length-map)
 

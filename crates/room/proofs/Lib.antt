@@ -10,3 +10,4 @@ pub mod ChainLaws
 pub mod HeaderLaws
 pub mod HoldsLaws
 pub mod PlaceLaws
+pub mod EditLaws
