@@ -12,3 +12,4 @@ pub mod HoldsLaws
 pub mod PlaceLaws
 pub mod EditLaws
 pub mod CutLaws
+pub mod FoundLaws

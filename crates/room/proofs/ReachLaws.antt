@@ -20,7 +20,7 @@ use Rattle.room.specs.Reach.{Reach, ended, before, there, pass, into, gr
 no-cons : (g : Level) (gs : Filter) → _≡_ {A = Filter} [] (g ∷ gs) → ⊥
 no-cons g gs e = let z : 0 ≡ suc (length gs) = ap length e in omega (arith, z)
 
-no-fork : {X : Type 0} (t : Level) (v : List X) (k n : Forest X) → _≡_ {A = Forest X} (fork t v k n) leaf → ⊥
+pub no-fork : {X : Type 0} (t : Level) (v : List X) (k n : Forest X) → _≡_ {A = Forest X} (fork t v k n) leaf → ⊥
 no-fork t v k n e = let z : true ≡ false = cc in true≢false z
 
 seek-none : (X : Type 0) (g : Level) (at : ℕ) → seekAt {X = X} g at leaf ≡ at
