@@ -13,3 +13,4 @@ pub mod PlaceLaws
 pub mod EditLaws
 pub mod CutLaws
 pub mod FoundLaws
+pub mod StayLaws

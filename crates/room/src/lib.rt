@@ -2,6 +2,7 @@
 mod below;
 mod chain;
 mod counts;
+mod cut;
 mod make;
 mod take;
 
