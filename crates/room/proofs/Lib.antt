@@ -1,16 +1,5 @@
-pub mod WayLaws
 pub mod Middle
-pub mod BelowLaws
-pub mod Gaps
-pub mod ReachLaws
 pub mod RunLaws
+pub mod BelowLaws
 pub mod MakeLaws
-pub mod ViewLaws
-pub mod ChainLaws
-pub mod HeaderLaws
-pub mod HoldsLaws
-pub mod PlaceLaws
-pub mod EditLaws
-pub mod CutLaws
-pub mod FoundLaws
 pub mod StayLaws

@@ -12,7 +12,7 @@ use borrow.Author.Tests.{eq-eqb, ne-eqb}
 use Rattle.forest.specs.declared.Row.{Row}
 use Rattle.forest.specs.Places.{ownAt, rowEnd, kidsEnd, RowAt}
 use Rattle.room.specs.Changes.{Under}
-use Rattle.room.specs.Cut.{loneAt, above, staying}
+use Rattle.room.specs.Stay.{loneAt, above, staying}
 use Rattle.room.proofs.BelowLaws.{node-below}
 
 module _ (base : ℕ) (s : List ℕ) (n : ℕ) where

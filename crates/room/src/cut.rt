@@ -4,7 +4,7 @@ ghost use Prim.Native.Nat.{_+_, _≤_, _<_};
 ghost use lib.ListN.{length, take};
 ghost use Rattle.forest.specs.Places.{unitAt};
 ghost use Rattle.room.specs.Changes.{Under};
-ghost use Rattle.room.specs.Cut.{loneAt, staying};
+ghost use Rattle.room.specs.Stay.{loneAt, staying};
 
 // The node at unit i holds nothing, and the one at unit k is its only child.
 fn is_lone(s: &[u8], base: usize, n: usize, i: usize, k: usize) -> bool

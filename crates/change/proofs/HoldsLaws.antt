@@ -20,13 +20,13 @@ use Rattle.region.specs.Store.{roomAt, usedBy, WrittenIn}
 use Rattle.region.proofs.Sizes.{few-units}
 use Rattle.region.proofs.Stores.{units-fit, header-room}
 use Rattle.forest.proofs.StandsLaws.{ForkFits, fits-fork}
 use Rattle.room.specs.declared.Load.{Load}
-use Rattle.room.specs.Ways.{past, down, Way, plug, wide}
+use Rattle.change.specs.Ways.{past, down, Way, plug, wide}
 use Rattle.room.specs.Changes.{moved, countsMoved}
-use Rattle.room.specs.View.{View}
-use Rattle.room.specs.Holds.{Holds}
-use Rattle.room.proofs.WayLaws.{units-plug, wide-add}
-use Rattle.room.proofs.HeaderLaws.{usedMoved, SmallUsed, header-moved, framed-moved}
+use Rattle.change.specs.View.{View}
+use Rattle.change.specs.Holds.{Holds}
+use Rattle.change.proofs.WayLaws.{units-plug, wide-add}
+use Rattle.change.proofs.HeaderLaws.{usedMoved, SmallUsed, header-moved, framed-moved}
 
 -- what is counted in all changes as it does at the place
 module _ {X : Type 0} where

@@ -17,15 +17,15 @@ use Rattle.region.specs.Forms.{Form}
 use Rattle.region.proofs.Decoded.{length-head, length-level, length-each, length-units}
 use Rattle.forest.specs.Places.{unitAt}
 use Rattle.forest.proofs.StandsLaws.{fork-units, length-marks}
-use Rattle.room.specs.Ways.{Way, plug, wide, ahead, downs, front, behind, deep, rowMarks, markFront, markBehind}
-use Rattle.room.specs.Reach.{growHere}
+use Rattle.change.specs.Ways.{Way, plug, wide, ahead, downs, front, behind, deep, rowMarks, markFront, markBehind}
+use Rattle.change.specs.Reach.{growHere}
 use Rattle.room.specs.Runs.{runUnits, runBytes, runMarks}
 use Rattle.room.specs.Changes.{moved, counted, belows, madeRun, putUnit, takenRun, cutUnit}
-use Rattle.room.specs.View.{View}
-use Rattle.room.proofs.WayLaws.{units-plug, wide-add, length-front, bytes-plug, length-mark-front, marks-plug}
+use Rattle.change.specs.View.{View}
+use Rattle.change.proofs.WayLaws.{units-plug, wide-add, length-front, bytes-plug, length-mark-front, marks-plug}
 use Rattle.room.proofs.RunLaws.{length-run, length-run-marks}
-use Rattle.room.proofs.ChainLaws.{fork-bytes, fork-marks, fork-split, marks-split, units-split, before-units, before-bytes, before-marks}
-use Rattle.room.proofs.ViewLaws.{view-below, framed-below, view-put, framed-put, view-cut, framed-cut, view-own, framed-own}
+use Rattle.change.proofs.ChainLaws.{fork-bytes, fork-marks, fork-split, marks-split, units-split, before-units, before-bytes, before-marks}
+use Rattle.change.proofs.ViewLaws.{view-below, framed-below, view-put, framed-put, view-cut, framed-cut, view-own, framed-own}
 
 -- the same region, with its units and marks in other words
 pub view-as : {R n m : ℕ} {s a b x y : List ℕ} → n ≡ m → a ≡ b → x ≡ y → View R s n a x → View R s m b y

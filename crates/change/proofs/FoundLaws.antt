@@ -18,12 +18,13 @@ use Rattle.forest.specs.Places.{unitAt, ownAt, rowEnd, kidsEnd}
 use Rattle.forest.specs.Stands.{Stands}
 use Rattle.forest.specs.Paths.{nodesAt}
 use Rattle.forest.proofs.StandsLaws.{fork-units, stands-own, stands-end, stands-past, stands-kids, stands-next}
-use Rattle.room.specs.Ways.{Frame, past, down, Way, plug, wide, ahead, downs, deep}
-use Rattle.room.specs.Reach.{Reach, ended, before, there, pass as reach-pass, into as reach-into}
-use Rattle.room.specs.Cut.{loneAt, above, staying, Alone, last, only, CutAt, here, pass, into}
-use Rattle.room.proofs.ReachLaws.{reach-nodes, no-fork}
-use Rattle.room.proofs.CutLaws.{cut-plug}
-use Rattle.room.proofs.WayLaws.{units-plug, wide-ahead}
+use Rattle.change.specs.Ways.{Frame, past, down, Way, plug, wide, ahead, downs, deep}
+use Rattle.change.specs.Reach.{Reach, ended, before, there, pass as reach-pass, into as reach-into}
+use Rattle.room.specs.Stay.{loneAt, above, staying}
+use Rattle.change.specs.Cut.{Alone, last, only, CutAt, here, pass, into}
+use Rattle.change.proofs.ReachLaws.{reach-nodes, no-fork}
+use Rattle.change.proofs.CutLaws.{cut-plug}
+use Rattle.change.proofs.WayLaws.{units-plug, wide-ahead}
 
 -- what stands at a place
 module _ {X : Type 0} (u : Form X) (base : ℕ) (s : List ℕ) where

@@ -14,8 +14,8 @@ use Rattle.held.proofs.Orders.{Tri, lower, alike, higher, tri, asym, eq-higher,
 use Rattle.held.proofs.Equations.{kid-here, kid-next, kid-past, grow-before, grow-after, grow-here, cut-here, cut-next}
 use Rattle.region.specs.Layout.{rowUnits, unitsF}
 use Rattle.forest.specs.Paths.{seekAt, nodesAt, spotAt}
-use Rattle.room.specs.Ways.{past, down, Way, plug, ahead, downs}
-use Rattle.room.specs.Reach.{Reach, ended, before, there, pass, into, growHere, lastNode}
+use Rattle.change.specs.Ways.{past, down, Way, plug, ahead, downs}
+use Rattle.change.specs.Reach.{Reach, ended, before, there, pass, into, growHere, lastNode}
 
 no-cons : (g : Level) (gs : Filter) → _≡_ {A = Filter} [] (g ∷ gs) → ⊥
 no-cons g gs e = let z : 0 ≡ suc (length gs) = ap length e in omega (arith, z)

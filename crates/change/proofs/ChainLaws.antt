@@ -11,10 +11,10 @@ use Rattle.held.specs.Forest.{Forest, leaf, fork}
 use Rattle.held.specs.Edit.{editOwn, chain}
 use Rattle.region.specs.Layout.{levelUnits, rowUnits, unitsF, headBytes, levelBytes, rowBytes, unitBytes, marksOf}
 use Rattle.lent.proofs.Turns.{replicate-last}
 use Rattle.room.specs.Runs.{runUnits, lastOwn, runBytes, runMarks}
-use Rattle.room.specs.Ways.{rowMarks}
-use Rattle.room.specs.Reach.{growHere}
+use Rattle.change.specs.Ways.{rowMarks}
+use Rattle.change.specs.Reach.{growHere}
 use Rattle.room.proofs.RunLaws.{run-on, marks-on}
 
 pub marks-none : (X : Type 0) (d : ℕ) → marksOf {X = X} d leaf ≡ []
 unfolding marksOf

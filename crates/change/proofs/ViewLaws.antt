@@ -16,13 +16,13 @@ use Rattle.region.specs.Layout.{headBytes}
 use Rattle.region.proofs.Decoded.{length-head}
 use Rattle.region.specs.Forms.{Form}
 use Rattle.forest.specs.Places.{unitAt}
-use Rattle.room.specs.Ways.{Way, wide, ahead, downs, front}
+use Rattle.change.specs.Ways.{Way, wide, ahead, downs, front}
 use Rattle.room.specs.Changes.{moved, counted, belows}
-use Rattle.room.specs.View.{View}
+use Rattle.change.specs.View.{View}
 use Rattle.room.proofs.Middle.{part-mid, counted-mid}
-use Rattle.room.proofs.Gaps.{inserted, inserted-framed, removed, removed-framed}
-use Rattle.room.proofs.BelowLaws.{belows-front}
-use Rattle.room.proofs.WayLaws.{length-front}
+use Rattle.change.proofs.Gaps.{inserted, inserted-framed, removed, removed-framed}
+use Rattle.change.proofs.BelowLaws.{belows-front}
+use Rattle.change.proofs.WayLaws.{length-front}
 
 -- a part in the middle of a list, and that the rest stays where another as long stands in its place
 module _ (b e : ℕ) (s : List ℕ) (h : b + e ≤ length s) where

@@ -16,14 +16,14 @@ use Rattle.held.proofs.Orders.{level-order, eq-higher}
 use Rattle.held.proofs.Equations.{cut-here, cut-next}
 use Rattle.region.specs.Layout.{levelUnits, rowUnits, unitsF}
 use Rattle.forest.proofs.StandsLaws.{fork-units}
 use Rattle.room.specs.declared.Load.{Load}
-use Rattle.room.specs.Ways.{past, down, Way, plug, wide, ahead, downs, deep}
+use Rattle.change.specs.Ways.{past, down, Way, plug, wide, ahead, downs, deep}
 use Rattle.room.specs.Runs.{runUnits, WantedFor}
 use Rattle.room.specs.Changes.{noLoad}
-use Rattle.room.specs.Cut.{Alone, last, only, CutAt, here, pass, into}
+use Rattle.change.specs.Cut.{Alone, last, only, CutAt, here, pass, into}
 use Rattle.room.proofs.RunLaws.{units-on, units-none}
-use Rattle.room.proofs.HoldsLaws.{Changes, length-held}
-use Rattle.room.proofs.ReachLaws.{pruned-fork}
+use Rattle.change.proofs.HoldsLaws.{Changes, length-held}
+use Rattle.change.proofs.ReachLaws.{pruned-fork}
 
 module _ {X : Type 0} (e : List X → List X) where
   pruned-none : (t : Level) (n : Forest X) → pruned t [] leaf n ≡ n

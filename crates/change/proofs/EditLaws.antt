@@ -18,19 +18,19 @@ use Rattle.region.specs.Store.{roomAt, WrittenIn}
 use Rattle.region.proofs.Stores.{units-fit}
 use Rattle.forest.specs.Paths.{nodesAt, spotAt}
 use Rattle.forest.proofs.StandsLaws.{ForkFits, fits-fork, fork-units}
 use Rattle.room.specs.declared.Load.{Load}
-use Rattle.room.specs.Ways.{past, down, Way, plug, wide, ahead, downs, deep}
-use Rattle.room.specs.Reach.{Reach, growHere}
+use Rattle.change.specs.Ways.{past, down, Way, plug, wide, ahead, downs, deep}
+use Rattle.change.specs.Reach.{Reach, growHere}
 use Rattle.room.specs.Runs.{runUnits, WantedFor}
 use Rattle.room.specs.Changes.{countsMoved, madeRun, noLoad, oneLoad, madeChain, putUnit, madeUnit, takenRun, takenChain, cutUnit, takenUnit}
-use Rattle.room.specs.View.{View}
-use Rattle.room.specs.Holds.{Holds}
-use Rattle.room.proofs.WayLaws.{units-plug, wide-add, wide-ahead}
+use Rattle.change.specs.View.{View}
+use Rattle.change.specs.Holds.{Holds}
+use Rattle.change.proofs.WayLaws.{units-plug, wide-add, wide-ahead}
 use Rattle.room.proofs.RunLaws.{units-on}
-use Rattle.room.proofs.ReachLaws.{reach-grow, reach-cut, reach-nodes, reach-spot}
-use Rattle.room.proofs.ChainLaws.{units-split, before-units}
-use Rattle.room.proofs.HoldsLaws.{Changes, fits-plug, holds-view, room-small, units-within, change-held, change-room, change-framed, length-held}
-use Rattle.room.proofs.PlaceLaws.{chain-view, chain-framed, unit-view, unit-framed, less-view, less-framed, taken-view, taken-framed}
+use Rattle.change.proofs.ReachLaws.{reach-grow, reach-cut, reach-nodes, reach-spot}
+use Rattle.change.proofs.ChainLaws.{units-split, before-units}
+use Rattle.change.proofs.HoldsLaws.{Changes, fits-plug, holds-view, room-small, units-within, change-held, change-room, change-framed, length-held}
+use Rattle.change.proofs.PlaceLaws.{chain-view, chain-framed, unit-view, unit-framed, less-view, less-framed, taken-view, taken-framed}
 
 -- how deep a place is
 pub deep-downs : {X : Type 0} (d at : ℕ) (w : Way X) → deep d w ≡ length (downs at w) + d

@@ -10,7 +10,7 @@ use Rattle.region.specs.Layout.{rowUnits, unitsF, rowBytes, unitBytes, marksOf}
 use Rattle.region.specs.Forms.{Form}
 use Rattle.region.proofs.Decoded.{length-row, length-units}
 use Rattle.forest.proofs.StandsLaws.{fork-units, length-marks}
-use Rattle.room.specs.Ways.{Frame, past, down, Way, plug, wide, ahead, downs, front, behind, deep, rowMarks, markFront, markBehind}
+use Rattle.change.specs.Ways.{Frame, past, down, Way, plug, wide, ahead, downs, front, behind, deep, rowMarks, markFront, markBehind}
 
 module _ {X : Type 0} where
   pub units-plug : (w : Way X) (G : Forest X) → unitsF (plug w G) ≡ wide w (unitsF G)

@@ -11,10 +11,10 @@ use Rattle.lent.proofs.Digits.{length-bytes}
 use Rattle.held.specs.Room.{Room}
 use Rattle.region.specs.Layout.{Used, headerBytes}
 use Rattle.region.proofs.Sizes.{length-header}
 use Rattle.room.specs.declared.Load.{Load}
 use Rattle.room.specs.Changes.{moved, counted, countsMoved}
 use Rattle.room.proofs.Middle.{counted-mid}
-use Rattle.room.proofs.ViewLaws.{split-at, replaced}
+use Rattle.change.proofs.ViewLaws.{split-at, replaced}
 
 -- what is in use then
 abbrev pub usedMoved : (more less : Load) → Used → Used
