@@ -1,0 +1,6 @@
+pub mod Beside
+pub mod Marks
+pub mod Parted
+pub mod StepLaws
+pub mod Halving
+pub mod Found

@@ -1,0 +1,26 @@
+// Finding in the tree of a region: a child by its level, and the nodes of a path.
+//
+// A child is found by halving its row where it is long. A row's siblings are found by the marks of the region: a byte for each
+// unit, at place 64 and the unit's number, with the depth of the row that begins there and 255 where none does.
+mod children;
+
+pub use children::find_child;
+
+// A child of a row: its first unit, the unit behind its row, and the unit behind all below it; or the unit where it would go.
+pub enum Child {
+    At {
+        node: usize,
+        end: usize,
+        past: usize,
+    },
+    Nothing {
+        place: usize,
+    },
+}
+
+// Where a search looks next: the first unit of a sibling, a unit that it holds, and how many siblings are passed before the row is halved.
+pub struct Probe {
+    pub node: usize,
+    pub mid: usize,
+    pub few: usize,
+}
