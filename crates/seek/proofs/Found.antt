@@ -69,6 +69,11 @@ pub record FoundAt (base : ℕ) (s : List ℕ) (g : Level) (d lo hi i e p : ℕ)
   pub node : Stands whole Whole base s d i p (fork g own (rawIn base s e p) leaf)
   pub kids : RawStands base s (d + 1) e p
 
+-- a child that is not there, and where it would go
+pub record MissedAt (base : ℕ) (s : List ℕ) (g : Level) (lo hi i : ℕ) : Type 0 where
+  pub missed : kid g (rawIn base s lo hi) ≡ miss
+  pub place : seekAt g lo (rawIn base s lo hi) ≡ i
+
 module _ (base : ℕ) (s : List ℕ) (g : Level) (d lo hi : ℕ) (w : RawStands base s d lo hi) where
   module _ (own : List (List ℕ)) (k : Forest (List ℕ)) (e : kid g (rawIn base s lo hi) ≡ hit own k) where
     c : KidAt g own k (rawIn base s lo hi)
@@ -124,3 +129,13 @@ module _ (base : ℕ) (s : List ℕ) (g : Level) (d lo hi : ℕ) (w : RawStands 
           let b : e ≡ at v k h + rowUnits g v = cc in
           let c : p ≡ at v k h + rowUnits g v + unitsF k = cc in
           rw (a, b, c) (found-hit v k h)
+
+  pub missed-at : (i : ℕ) → Nothing i ≡ childOf g lo (rawIn base s lo hi) → MissedAt base s g lo hi i
+  unfolding childOf
+  missed-at i q = go (kid g (rawIn base s lo hi)) refl q
+    where
+      go : (h : Hit (List ℕ)) → kid g (rawIn base s lo hi) ≡ h
+          → Nothing i ≡ onHit h (Nothing (seekAt g lo (rawIn base s lo hi))) (λ v k. At (seekAt g lo (rawIn base s lo hi)) (seekAt g lo (rawIn base s lo hi) + rowUnits g v) (seekAt g lo (rawIn base s lo hi) + rowUnits g v + unitsF k))
+          → MissedAt base s g lo hi i
+      go miss h z = record { missed = h; place = let y : i ≡ seekAt g lo (rawIn base s lo hi) = cc in sym y }
+      go (hit v k) h z = let y : _≡_ {A = ℕ} 0 1 = cc in absurd (omega arith)

@@ -4,3 +4,4 @@ pub mod Parted
 pub mod StepLaws
 pub mod Halving
 pub mod Found
+pub mod Descent
