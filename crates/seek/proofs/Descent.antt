@@ -10,7 +10,7 @@ use lib.Seq.{take-suc-set, getD-set-same, getD-set-other}
 use Rattle.lent.proofs.Anywhere.{lt-or-ge}
 use Rattle.level.specs.Levels.{split}
 use Rattle.level.specs.Places.{first, levelsAt, endOf}
-use Rattle.level.proofs.Split.{levels-cons, levels-none, part-end, part-fits}
+use Rattle.level.proofs.Split.{levels-cons, levels-none, end-within, part-first}
 use Rattle.held.specs.Order.{Level, Filter}
 use Rattle.held.specs.Forest.{Forest, Hit, miss, hit, kid}
 use Rattle.held.specs.Edit.{missing}
@@ -23,6 +23,10 @@ use Rattle.seek.specs.declared.Path.{Path}
 use Rattle.seek.specs.Child.{childOf, Inside}
 use Rattle.seek.specs.PathFound.{PathOf, PathFound}
 use Rattle.seek.proofs.Found.{FoundAt, found-at, MissedAt, missed-at}
+
+-- a level that begins within a text ends there
+pub end-in : (text : List ℕ) (from : ℕ) {end : ℕ} → from ≤ length text → end ≡ endOf text from → end ≤ length text
+end-in text from h e = rw e (end-within text from h)
 
 -- a level of a path, by what a row has of it
 module _ {X : Type 0} (g : Level) (gs : Filter) (at : ℕ) (F : Forest X) where
@@ -128,18 +132,20 @@ module _ (base : ℕ) (s : List ℕ) (n : ℕ) (text nodes : List ℕ) (depth lo
       none (l ∷ ls) e = absurd (omega arith)
 
   -- the child with the next level
-  module _ (g : Level) (v : Child) (within : from ≤ length text) (level : g ≡ first (drop from text))
-      (answer : RawStands base s (depth + 1) lo hi → v ≡ childOf g lo (rawIn base s lo hi)) (inside : Inside lo hi v) where
+  module _ (end : ℕ) (v : Child) (within : from ≤ length text) (ends : end ≡ endOf text from)
+      (answer : RawStands base s (depth + 1) lo hi → v ≡ childOf (take (end - from) (drop from text)) lo (rawIn base s lo hi)) (inside : Inside lo hi v) where
+    g : Level
+    g = take (end - from) (drop from text)
+
     next : ℕ
-    next = from + length g + 1
+    next = end + 1
 
     levels : levelsAt text from ≡ g ∷ levelsAt text next
-    unfolding next
-    levels =
-        let e : suc (endOf text from) ≡ from + length g + 1 = sym (ap (λ (x : ℕ). x + 1) (part-end text from level) ∙ add-one (endOf text from)) in
-        levels-cons text from within ∙ rw (e, ← level)
+    unfolding g next
+    levels = levels-cons text from within ∙ rw (ends, part-first text from, add-one)
 
     pub path-missing : (i : ℕ) → v ≡ Nothing i → PathFound base s n text (record { nodes = nodes; depth = depth; place = i; from = from })
+    unfolding g
     path-missing i q =
         let b : (lo ≤ i) × (i ≤ max lo hi) = rw q at inside in
         record {
@@ -178,8 +184,8 @@ module _ (base : ℕ) (s : List ℕ) (n : ℕ) (text nodes : List ℕ) (depth lo
       rest-next : missing (levelsAt text from) (rawIn base s lo hi) ≡ missing (levelsAt text next) (rawIn base s e p)
       rest-next = rw levels (missing-hit g (levelsAt text next) lo (rawIn base s lo hi) (u .own) (rawIn base s e p) (u .found))
 
-    pub going-next : (i e p : ℕ) → v ≡ At i e p → depth < 128 → Going base s n text (set nodes depth i) (depth + 1) e p (from + length g + 1)
-    unfolding next
+    pub going-next : (i e p : ℕ) → v ≡ At i e p → depth < 128 → Going base s n text (set nodes depth i) (depth + 1) e p (end + 1)
+    unfolding g next
     going-next i e p q h =
         let b : (lo ≤ i) × (i < e) × (e ≤ p) × (p ≤ hi) = rw q at inside in
         let l : depth < length nodes = omega (arith, k .room) in
@@ -188,7 +194,7 @@ module _ (base : ℕ) (s : List ℕ) (n : ℕ) (text nodes : List ℕ) (depth lo
           room = rw length-set (k .room);
           low = b .2;
           high = omega (arith, b .3, k .high);
-          text-in = omega (arith, part-fits text from within level);
+          text-in = omega (arith, end-within text from within);
           nodes-in = in-next i l (omega (arith, b .1, b .2, b .3, k .high));
           down = λ w.
               let f = k .down w in

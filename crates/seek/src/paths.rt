@@ -11,13 +11,14 @@ pub fn find_path(s: &[u8], base: usize, n: usize, text: &[u8]) -> Path
     requires { ⌜ (unitAt base n ≤ length (now s)) × (64 + n ≤ base) ⌝ }
     ensures { λ r. ⌜ PathFound base (now (s .entry)) n (now (text .entry)) r ⌝ }
 {
+    let size = text.len();
     let mut nodes: [usize; 128] = [0; 128];
     let mut depth: usize = 0;
     let mut lo: usize = 0;
     let mut hi = n;
     let mut from: usize = 0;
     while depth < 128 {
-        if text.len() < from {
+        if size < from {
             return Path {
                 nodes,
                 depth,
@@ -25,15 +26,19 @@ pub fn find_path(s: &[u8], base: usize, n: usize, text: &[u8]) -> Path
                 from,
             };
         }
-        let level = level::part_at(text, from);
-        let child = crate::find_child(s, base, lo, hi, depth + 1, level);
+        let end = level::level_end(text, from);
+        let child = crate::find_child(s, base, lo, hi, depth + 1, &text[from..end]);
         match child {
-            Child::At { node, end, past } => {
+            Child::At {
+                node,
+                end: below,
+                past,
+            } => {
                 nodes[depth] = node;
                 depth += 1;
-                lo = end;
+                lo = below;
                 hi = past;
-                from = from + level.len() + 1;
+                from = end + 1;
             }
             Child::Nothing { place } => {
                 return Path {
