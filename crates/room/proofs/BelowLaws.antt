@@ -1,0 +1,147 @@
+-- The units below the nodes that a way goes down from, put right for what now stands at the place. Assumes nothing.
+use mathlib.Core.Path.{_≡_, refl, sym, ap, _∙_}
+use mathlib.Core.List.{List, [], _∷_, _++_, append-assoc}
+use Prim.Native.Nat.{ℕ, zero, suc, _+_, _-_, _*_, _≤_, _<_}
+use native.Mathlib.Omega.{arith}
+use lib.ListN.{length, take, drop, getD, length-append, length-take, drop-of-length-le}
+use lib.Seq.{drop-cons, getD-take}
+use native.Mathlib.Numerals.{add-one}
+use Rattle.lent.specs.Numbers.{bytes}
+use Rattle.lent.specs.Total.{read, write}
+use Rattle.lent.proofs.Digits.{length-bytes}
+use Rattle.lent.proofs.Anywhere.{write-framed}
+use Rattle.held.specs.Order.{Level}
+use Rattle.held.specs.Bytes.{each}
+use Rattle.held.specs.Forest.{Forest}
+use Rattle.region.specs.Layout.{rowUnits, unitsF, headBytes, levelBytes, rowBytes, unitBytes}
+use Rattle.region.specs.Forms.{Form}
+use Rattle.region.proofs.Decoded.{length-row, length-units}
+use Rattle.forest.specs.Places.{unitAt}
+use Rattle.room.specs.Ways.{past, down, Way, wide, ahead, downs, front}
+use Rattle.room.specs.Changes.{moved, counted, belows, countsMoved, Under, none-under, more-under}
+use Rattle.room.specs.declared.Load.{Load}
+use Rattle.room.proofs.Middle.{read-mid, write-mid}
+use Rattle.room.proofs.WayLaws.{wide-add}
+
+module _ {X : Type 0} (write' : X → List ℕ) (t : Level) (v : List X) (a z : List ℕ) (p : ℕ) (at : length a ≡ p) where
+  -- the number below in the middle of its row
+  abbrev ahead' : List ℕ
+  ahead' = a ++ (bytes 2 (length t) ++ bytes 2 (length v))
+
+  abbrev rest : List ℕ
+  rest = bytes 2 0 ++ (levelBytes t ++ (each write' v ++ z))
+
+  head-of : (b : ℕ) → a ++ (rowBytes write' t v b ++ z) ≡ ahead' ++ (bytes 2 b ++ rest)
+  unfolding rowBytes headBytes
+  head-of b = simp append-assoc
+
+  place : length ahead' ≡ p + 4
+  place = rw (length-append, length-append, length-bytes, length-bytes) (omega (arith, at))
+
+  pub below-of : (b : ℕ) → b < 65536 → read 2 (p + 4) (a ++ (rowBytes write' t v b ++ z)) ≡ b
+  below-of b h = rw (head-of b) (read-mid 2 b ahead' rest (p + 4) place h)
+
+  pub below-put : (b c : ℕ) → write (p + 4) (bytes 2 c) (a ++ (rowBytes write' t v b ++ z)) ≡ a ++ (rowBytes write' t v c ++ z)
+  below-put b c = rw (head-of b, head-of c) (write-mid ahead' (bytes 2 b) (bytes 2 c) rest (p + 4) place (rw (length-bytes, length-bytes)))
+
+module _ {X : Type 0} (u : Form X) (base more less b c : ℕ) (change : b + more ≡ c + less) where
+  wide-moved : (w : Way X) → moved more less (wide w b) ≡ wide w c
+  wide-moved w = omega (arith, wide-add w b more, wide-add w c less, ap (wide w) change)
+
+  down-step : (t : Level) (v : List X) (n : Forest X) (w : Way X) (at : ℕ) (s : List ℕ) → belows more less base (downs at (down t v n ∷ w)) s
+      ≡ belows more less base (downs (at + rowUnits t v) w) (write (unitAt base at + 4) (bytes 2 (moved more less (read 2 (unitAt base at + 4) s))) s)
+  unfolding belows downs counted
+  down-step t v n w at s = refl
+
+  pub belows-front : (w : Way X) (a z : List ℕ) (at : ℕ) → length a ≡ unitAt base at → wide w b < 65536
+      → belows more less base (downs at w) (a ++ (front (u .write) w b ++ z)) ≡ a ++ (front (u .write) w c ++ z)
+  unfolding belows downs front wide
+  belows-front [] a z at h k = refl
+  belows-front (past t v f ∷ w) a z at h k =
+      let l : length (a ++ (rowBytes (u .write) t v (unitsF f) ++ unitBytes (u .write) f)) ≡ unitAt base (at + (rowUnits t v + unitsF f)) =
+      rw (length-append, length-append, length-row u t v (unitsF f), length-units u f) (omega (arith, h)) in
+      let ih = belows-front w (a ++ (rowBytes (u .write) t v (unitsF f) ++ unitBytes (u .write) f)) z (at + (rowUnits t v + unitsF f)) l (omega (arith, k)) in
+      simp append-assoc (simp append-assoc at ih)
+  belows-front (down t v n ∷ w) a z at h k =
+      let l : length (a ++ rowBytes (u .write) t v (wide w c)) ≡ unitAt base (at + rowUnits t v) =
+      rw (length-append, length-row u t v (wide w c)) (omega (arith, h)) in
+      let ih = belows-front w (a ++ rowBytes (u .write) t v (wide w c)) z (at + rowUnits t v) l (omega (arith, k)) in
+      let r : read 2 (unitAt base at + 4) (a ++ (rowBytes (u .write) t v (wide w b) ++ (front (u .write) w b ++ z))) ≡ wide w b =
+      below-of (u .write) t v a (front (u .write) w b ++ z) (unitAt base at) h (wide w b) (omega (arith, k)) in
+      let e : write (unitAt base at + 4) (bytes 2 (wide w c)) (a ++ (rowBytes (u .write) t v (wide w b) ++ (front (u .write) w b ++ z))) ≡ a ++ (rowBytes (u .write) t v (wide w c) ++ (front (u .write) w b ++ z)) =
+      below-put (u .write) t v a (front (u .write) w b ++ z) (unitAt base at) h (wide w b) (wide w c) in
+      rw (append-assoc (rowBytes (u .write) t v (wide w b)) (front (u .write) w b) z, append-assoc (rowBytes (u .write) t v (wide w c)) (front (u .write) w c) z, down-step t v n w at, r, wide-moved w, e)
+      (rw (append-assoc a (rowBytes (u .write) t v (wide w c)) (front (u .write) w b ++ z), append-assoc a (rowBytes (u .write) t v (wide w c)) (front (u .write) w c ++ z)) at ih)
+
+-- the nodes of an array from a place on
+module _ (nodes : List ℕ) (count j : ℕ) (few : count ≤ length nodes) (h : j < count) where
+  pub nodes-on : drop j (take count nodes) ≡ getD nodes j 0 ∷ drop (j + 1) (take count nodes)
+  nodes-on =
+      let l : length (take count nodes) ≡ count = rw length-take (omega arith) in
+      drop-cons (take count nodes) j 0 (omega (arith, l))
+      ∙ rw (getD-take count nodes j 0 h, add-one)
+
+  under-at : (n : ℕ) (l : List ℕ) (k : ℕ) → Under n l → k < length l → getD l k 0 < n
+  under-at n [] k none-under q = absurd (omega arith)
+  under-at n (i ∷ l) zero (more-under a u) q = a
+  under-at n (i ∷ l) (suc k) (more-under a u) q = under-at n l k u (omega arith)
+
+  pub node-under : (n : ℕ) → Under n (take count nodes) → getD nodes j 0 < n
+  node-under n u =
+      let l : length (take count nodes) ≡ count = rw length-take (omega arith) in
+      rw (getD-take count nodes j 0 h) at (under-at n (take count nodes) j u (omega (arith, l)))
+
+-- the turns of move_below
+pub record BelowLeft (more less base : ℕ) (nodes : List ℕ) (count : ℕ) (s₀ : List ℕ) (j : ℕ) (s : List ℕ) : Type 0 where
+  pub same : belows more less base (drop j (take count nodes)) s ≡ belows more less base (take count nodes) s₀
+  pub long : length s ≡ length s₀
+  pub on : j ≤ count
+
+belows-some : (more less base i : ℕ) (is s : List ℕ) → belows more less base (i ∷ is) s
+    ≡ belows more less base is (write (unitAt base i + 4) (bytes 2 (moved more less (read 2 (unitAt base i + 4) s))) s)
+unfolding belows counted
+belows-some more less base i is s = refl
+
+belows-one : (more less base i : ℕ) (s : List ℕ) → belows more less base (i ∷ []) s
+    ≡ write (unitAt base i + 4) (bytes 2 (moved more less (read 2 (unitAt base i + 4) s))) s
+unfolding belows counted
+belows-one more less base i s = refl
+
+pub one-moved : (more less base i : ℕ) (s : List ℕ) {t : List ℕ} → t ≡ counted (base + i * 16 + 4) more less s → t ≡ belows more less base (i ∷ []) s
+unfolding belows
+one-moved more less base i s f = f
+
+pub count-moved : (at more less : ℕ) (s : List ℕ) {x y : ℕ} → x ≡ read 2 at s → y ≡ moved more less x → {t : List ℕ} → t ≡ write at (bytes 2 y) s → t ≡ counted at more less s
+unfolding counted
+count-moved at more less s ex ey f = rw (ey, ex) at f
+
+pub counts-moved : (a b : Load) (s s₁ s₂ s₃ s₄ : List ℕ) → s₁ ≡ counted 10 (a .nodes) (b .nodes) s → s₂ ≡ counted 12 (a .pairs) (b .pairs) s₁
+    → s₃ ≡ counted 14 (a .cells) (b .cells) s₂ → s₄ ≡ counted 16 (a .units) (b .units) s₃ → s₄ ≡ countsMoved a b s
+unfolding countsMoved
+counts-moved a b s s₁ s₂ s₃ s₄ e f g h = rw (g, f, e) at h
+
+pub node-below : (nodes : List ℕ) (count j n : ℕ) → length nodes ≡ 128 → count ≤ 128 → j < count → Under n (take count nodes) → getD nodes j 0 < n
+node-below nodes count j n l few h u = node-under nodes count j (omega (arith, l)) h n u
+
+module _ (more less base : ℕ) (nodes : List ℕ) (count : ℕ) where
+  pub below-begin : (s₀ : List ℕ) → BelowLeft more less base nodes count s₀ 0 s₀
+  below-begin s₀ = record { same = refl; long = refl; on = omega arith }
+
+  module _ (s₀ s : List ℕ) (j : ℕ) (r : BelowLeft more less base nodes count s₀ j s) where
+    pub below-step : length nodes ≡ 128 → count ≤ 128 → j < count → (t : List ℕ) → t ≡ belows more less base (getD nodes j 0 ∷ []) s
+        → BelowLeft more less base nodes count s₀ (j + 1) t
+    below-step l few h t f =
+        let f′ = f ∙ belows-one more less base (getD nodes j 0) s in
+        record {
+          same =
+              rw f′ (sym (belows-some more less base (getD nodes j 0) (drop (j + 1) (take count nodes)) s))
+              ∙ sym (ap (λ (is : List ℕ). belows more less base is s) (nodes-on nodes count j (omega (arith, l)) h)) ∙ r .same;
+          long = ap length f′ ∙ write-framed (unitAt base (getD nodes j 0) + 4) (bytes 2 (moved more less (read 2 (unitAt base (getD nodes j 0) + 4) s))) s .long ∙ r .long;
+          on = omega arith;
+        }
+
+    pub below-end : count ≤ j → s ≡ belows more less base (take count nodes) s₀
+    unfolding belows
+    below-end h =
+        let l : length (take count nodes) ≤ j = rw length-take (omega (arith)) in
+        rw (drop-of-length-le (take count nodes) {i = j} l) at (r .same)

@@ -1,0 +1,7 @@
+pub mod WayLaws
+pub mod Middle
+pub mod BelowLaws
+pub mod Gaps
+pub mod ReachLaws
+pub mod RunLaws
+pub mod MakeLaws

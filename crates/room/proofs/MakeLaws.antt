@@ -1,0 +1,90 @@
+-- The steps of making room: no step changes the length, and together they are what was promised. Assumes nothing.
+use mathlib.Core.Path.{_≡_, refl, sym, ap, _∙_}
+use mathlib.Core.List.{List, [], _∷_}
+use Prim.Native.Nat.{ℕ, _+_, _-_, _*_, _≤_, _<_}
+use native.Mathlib.Omega.{arith}
+use lib.ListN.{length, replicate}
+use Rattle.lent.specs.Parts.{part, patch}
+use Rattle.lent.specs.Total.{write, opened, closed}
+use Rattle.lent.proofs.Parts.{length-part, length-patch}
+use Rattle.lent.proofs.Anywhere.{write-framed, open-in, close-in}
+use Rattle.forest.specs.Places.{unitAt}
+use Rattle.held.specs.Order.{Filter}
+use Rattle.room.specs.declared.Load.{Load}
+use Rattle.room.specs.Runs.{runUnits, runBytes, runMarks}
+use Rattle.room.specs.Changes.{counted, belows, countsMoved, noLoad, oneLoad, madeRun, madeChain, madeUnit, takenRun, takenChain, takenUnit}
+use Rattle.room.proofs.RunLaws.{length-run, length-run-marks}
+
+pub length-counted : (at more less : ℕ) (s : List ℕ) → length (counted at more less s) ≡ length s
+unfolding counted
+length-counted at more less s = write-framed at _ s .long
+
+pub length-belows : (more less base : ℕ) (is s : List ℕ) → length (belows more less base is s) ≡ length s
+unfolding belows
+length-belows more less base [] s = refl
+length-belows more less base (i ∷ is) s = length-belows more less base is (counted (unitAt base i + 4) more less s) ∙ length-counted (unitAt base i + 4) more less s
+
+pub length-opened : (at end by : ℕ) (s : List ℕ) → at ≤ end → end + by ≤ length s → length (opened at end by s) ≡ length s
+length-opened at end by s h k =
+    let l : length (part at (end - at) s) ≡ end - at = length-part at (end - at) s (omega arith) in
+    ap length (open-in at end by s k) ∙ length-patch (at + by) (part at (end - at) s) s (omega (arith, l))
+
+pub length-closed : (at end by : ℕ) (s : List ℕ) → at ≤ end → end + by ≤ length s → length (closed at end by s) ≡ length s
+length-closed at end by s h k =
+    let l : length (part (at + by) (end - at) s) ≡ end - at = length-part (at + by) (end - at) s (omega arith) in
+    ap length (close-in at end by s k) ∙ length-patch at (part (at + by) (end - at) s) s (omega (arith, l))
+
+-- make_chain, step by step
+module _ (base n place c : ℕ) (nodes s s₁ s₂ : List ℕ) (at : place ≤ n) (room : unitAt base (n + c) ≤ length s)
+    (e₁ : s₁ ≡ belows c 0 base nodes s) (e₂ : s₂ ≡ opened (base + place * 16) (base + n * 16) (c * 16) s₁) where
+  l₁ : length s₁ ≡ length s
+  l₁ = ap length e₁ ∙ length-belows c 0 base nodes s
+
+  l₂ : length s₂ ≡ length s
+  l₂ = ap length e₂ ∙ length-opened (base + place * 16) (base + n * 16) (c * 16) s₁ (omega arith) (omega (arith, l₁)) ∙ l₁
+
+  pub rows-fit : unitAt base (place + c) ≤ length s₂
+  rows-fit = omega (arith, l₂)
+
+  module _ (x : List ℕ) (gs : Filter) (long : length x ≡ 16) (many : c ≡ runUnits gs) (s₃ s₄ : List ℕ) (room₂ : 64 + (n + c) ≤ length s)
+      (e₃ : s₃ ≡ patch (unitAt base place) (runBytes x gs) s₂) (e₄ : s₄ ≡ opened (64 + place) (64 + n) c s₃) where
+    l₃ : length s₃ ≡ length s
+    l₃ = ap length e₃ ∙ length-patch (unitAt base place) (runBytes x gs) s₂ (omega (arith, length-run x gs long, l₂, many)) ∙ l₂
+
+    l₄ : length s₄ ≡ length s
+    l₄ = ap length e₄ ∙ length-opened (64 + place) (64 + n) c s₃ (omega arith) (omega (arith, l₃)) ∙ l₃
+
+    pub marks-fit : 64 + (place + c) ≤ length s₄
+    marks-fit = omega (arith, l₄)
+
+pub run-made : (base n place d c : ℕ) (nodes x : List ℕ) (gs : Filter) (s s₁ s₂ s₃ s₄ s₅ : List ℕ)
+    → s₁ ≡ belows c 0 base nodes s → s₂ ≡ opened (base + place * 16) (base + n * 16) (c * 16) s₁
+    → s₃ ≡ patch (unitAt base place) (runBytes x gs) s₂ → s₄ ≡ opened (64 + place) (64 + n) c s₃
+    → s₅ ≡ patch (64 + place) (runMarks d gs) s₄ → s₅ ≡ madeRun base n nodes place d x gs c s
+unfolding madeRun
+run-made base n place d c nodes x gs s s₁ s₂ s₃ s₄ s₅ a b e f g = rw (f, e, b, a) at g
+
+pub chain-made : (base n place d : ℕ) (nodes x : List ℕ) (gs : Filter) (load : Load) (s t u : List ℕ)
+    → t ≡ madeRun base n nodes place d x gs (load .units) s → u ≡ countsMoved load noLoad t → u ≡ madeChain base n nodes place d x gs load s
+unfolding madeChain
+chain-made base n place d nodes x gs load s t u a b = rw a at b
+
+pub unit-made : (base n node at : ℕ) (nodes x s s₁ s₂ s₃ s₄ s₅ s₆ s₇ : List ℕ)
+    → s₁ ≡ belows 1 0 base nodes s → s₂ ≡ counted (base + node * 16 + 2) 1 0 s₁ → s₃ ≡ opened (base + at * 16) (base + n * 16) 16 s₂ → s₄ ≡ write (base + at * 16) x s₃
+    → s₅ ≡ opened (64 + at) (64 + n) 1 s₄ → s₆ ≡ write (64 + at) (replicate 1 255) s₅ → s₇ ≡ countsMoved oneLoad noLoad s₆ → s₇ ≡ madeUnit base n nodes node at x s
+unfolding madeUnit
+unit-made base n node at nodes x s s₁ s₂ s₃ s₄ s₅ s₆ s₇ a b c d e f g = rw (f, e, d, c, b, a) at g
+
+pub run-taken : (base n at c : ℕ) (nodes s s₁ s₂ s₃ : List ℕ) → s₁ ≡ belows 0 c base nodes s → s₂ ≡ closed (base + at * 16) (base + (n - c) * 16) (c * 16) s₁
+    → s₃ ≡ closed (64 + at) (64 + (n - c)) c s₂ → s₃ ≡ takenRun base n nodes at c s
+unfolding takenRun
+run-taken base n at c nodes s s₁ s₂ s₃ d e f = rw (e, d) at f
+
+pub chain-taken : (base n at : ℕ) (nodes : List ℕ) (load : Load) (s t u : List ℕ) → t ≡ takenRun base n nodes at (load .units) s → u ≡ countsMoved noLoad load t → u ≡ takenChain base n nodes at load s
+unfolding takenChain
+chain-taken base n at nodes load s t u a b = rw a at b
+
+pub unit-taken : (base n node at : ℕ) (nodes s s₁ s₂ s₃ : List ℕ) → s₁ ≡ counted (base + node * 16 + 2) 0 1 s → s₂ ≡ takenRun base n nodes at 1 s₁ → s₃ ≡ countsMoved noLoad oneLoad s₂
+    → s₃ ≡ takenUnit base n nodes node at s
+unfolding takenUnit
+unit-taken base n node at nodes s s₁ s₂ s₃ a b c = rw (b, a) at c

@@ -1,0 +1,4 @@
+pub mod Ways
+pub mod Reach
+pub mod Runs
+pub mod Changes
