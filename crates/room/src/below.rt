@@ -16,7 +16,15 @@ fn move_one(s: &mut [u8], base: usize, i: usize, n: usize, more: usize, less: us
 }
 
 // Puts right the units below the first `count` of these nodes.
-pub fn move_below(s: &mut [u8], base: usize, nodes: [usize; 128], count: usize, n: usize, more: usize, less: usize)
+pub fn move_below(
+    s: &mut [u8],
+    base: usize,
+    nodes: [usize; 128],
+    count: usize,
+    n: usize,
+    more: usize,
+    less: usize,
+)
     requires { ⌜ (count ≤ 128) × (unitAt base n ≤ length (now s)) × Under n (take count nodes) × (more < 65536) ⌝ }
     ensures { λ _. ⌜ now (s .exit) ≡ belows more less base (take count nodes) (now (s .entry)) ⌝ }
 {

@@ -10,7 +10,11 @@ fn moved_by(x: u64, more: usize, less: usize) -> u64
     ensures { λ r. ⌜ r ≡ moved more less x ⌝ }
 {
     let most = x + more as u64;
-    if most < less as u64 { 0 } else { most - less as u64 }
+    if most < less as u64 {
+        0
+    } else {
+        most - less as u64
+    }
 }
 
 pub fn move_count(s: &mut [u8], at: usize, more: usize, less: usize)

@@ -6,10 +6,10 @@ ghost use Rattle.level.specs.Places.{levelsAt};
 ghost use Rattle.forest.specs.Places.{unitAt};
 ghost use Rattle.room.specs.Runs.{runUnits, WantedFor};
 ghost use Rattle.room.specs.Changes.{Under, SmallLoad, madeRun, madeChain, madeUnit};
+use crate::Load;
 use crate::below;
 use crate::chain;
 use crate::counts;
-use crate::Load;
 
 // The rows and marks of new nodes for the levels of a text from place `from` on, `units` in all, before unit `place` and below
 // `depth` nodes; the last holds `unit`.

@@ -4,12 +4,20 @@ ghost use Prim.Native.Nat.{_+_, _≤_, _<_};
 ghost use lib.ListN.{length, take};
 ghost use Rattle.forest.specs.Places.{unitAt};
 ghost use Rattle.room.specs.Changes.{Under, takenRun, takenChain, takenUnit};
+use crate::Load;
 use crate::below;
 use crate::counts;
-use crate::Load;
 
 // Takes c units away from unit `at` on, below `depth` nodes, and their marks.
-fn take_run(s: &mut [u8], base: usize, n: usize, nodes: [usize; 128], depth: usize, at: usize, c: usize)
+fn take_run(
+    s: &mut [u8],
+    base: usize,
+    n: usize,
+    nodes: [usize; 128],
+    depth: usize,
+    at: usize,
+    c: usize,
+)
     requires { ⌜ (depth ≤ 128) × Under n (take depth nodes) × (at + c ≤ n) × (unitAt base n ≤ length (now s)) × (64 + n ≤ length (now s)) ⌝ }
     ensures { λ _. ⌜ now (s .exit) ≡ takenRun base n (take depth nodes) at c (now (s .entry)) ⌝ }
 {
@@ -19,7 +27,15 @@ fn take_run(s: &mut [u8], base: usize, n: usize, nodes: [usize; 128], depth: usi
 }
 
 // Takes away whole nodes. `load` is what they took.
-pub fn take_chain(s: &mut [u8], base: usize, n: usize, nodes: [usize; 128], depth: usize, at: usize, load: Load)
+pub fn take_chain(
+    s: &mut [u8],
+    base: usize,
+    n: usize,
+    nodes: [usize; 128],
+    depth: usize,
+    at: usize,
+    load: Load,
+)
     requires { ⌜ (depth ≤ 128) × Under n (take depth nodes) × (at + load .units ≤ n) × (unitAt base n ≤ length (now s)) × (64 + n ≤ length (now s)) ⌝ }
     ensures { λ _. ⌜ now (s .exit) ≡ takenChain base n (take depth nodes) at load (now (s .entry)) ⌝ }
 {
@@ -35,7 +51,15 @@ pub fn take_chain(s: &mut [u8], base: usize, n: usize, nodes: [usize; 128], dept
 }
 
 // Takes away unit `at` of the node at unit `node`, which stands below `depth` nodes.
-pub fn take_unit(s: &mut [u8], base: usize, n: usize, nodes: [usize; 128], depth: usize, node: usize, at: usize)
+pub fn take_unit(
+    s: &mut [u8],
+    base: usize,
+    n: usize,
+    nodes: [usize; 128],
+    depth: usize,
+    node: usize,
+    at: usize,
+)
     requires { ⌜ (depth ≤ 128) × Under n (take depth nodes) × (node < n) × (at < n) × (unitAt base n ≤ length (now s)) × (64 + n ≤ length (now s)) ⌝ }
     ensures { λ _. ⌜ now (s .exit) ≡ takenUnit base n (take depth nodes) node at (now (s .entry)) ⌝ }
 {

@@ -80,36 +80,36 @@ module _ {X : Type 0} where
   rows-back (fork t v k n) G r = rows-back n G (r .2)
 
   -- the levels of a row come before g
-  abbrev pub Under : Level → Forest X → Type 0
-  Under g leaf = Unit {0}
-  Under g (fork t v k n) = (levelLt t g ≡ true) × Under g n
+  abbrev pub Precede : Level → Forest X → Type 0
+  Precede g leaf = Unit {0}
+  Precede g (fork t v k n) = (levelLt t g ≡ true) × Precede g n
 
-  pub under-first : (P : Forest X) (t : Level) (v : List X) (k n : Forest X) → Rows (beside P (fork t v k n)) → Under t P
+  pub precede-first : (P : Forest X) (t : Level) (v : List X) (k n : Forest X) → Rows (beside P (fork t v k n)) → Precede t P
   unfolding beside
-  under-first leaf t v k n r = tt
-  under-first (fork u w j m) t v k n r = (over-back u m (fork t v k n) (r .0) .0, under-first m t v k n (r .2))
+  precede-first leaf t v k n r = tt
+  precede-first (fork u w j m) t v k n r = (over-back u m (fork t v k n) (r .0) .0, precede-first m t v k n (r .2))
 
-  pub under-less : (a b : Level) (P : Forest X) → levelLt a b ≡ true → Under a P → Under b P
-  under-less a b leaf p u = tt
-  under-less a b (fork t v k n) p u = (level-order .trans t a b (u .0) p, under-less a b n p (u .1))
+  pub precede-less : (a b : Level) (P : Forest X) → levelLt a b ≡ true → Precede a P → Precede b P
+  precede-less a b leaf p u = tt
+  precede-less a b (fork t v k n) p u = (level-order .trans t a b (u .0) p, precede-less a b n p (u .1))
 
-  pub under-node : (g : Level) (P : Forest X) (t : Level) (v : List X) (k : Forest X) → Under g P → levelLt t g ≡ true → Under g (beside P (fork t v k leaf))
+  pub precede-node : (g : Level) (P : Forest X) (t : Level) (v : List X) (k : Forest X) → Precede g P → levelLt t g ≡ true → Precede g (beside P (fork t v k leaf))
   unfolding beside
-  under-node g leaf t v k u p = (p, tt)
-  under-node g (fork w x y z) t v k u p = (u .0, under-node g z t v k (u .1) p)
+  precede-node g leaf t v k u p = (p, tt)
+  precede-node g (fork w x y z) t v k u p = (u .0, precede-node g z t v k (u .1) p)
 
   -- the search passes what comes before
-  pub seek-under : (g : Level) (at : ℕ) (P G : Forest X) → Under g P → seekAt g at (beside P G) ≡ seekAt g (at + unitsF P) G
+  pub seek-behind : (g : Level) (at : ℕ) (P G : Forest X) → Precede g P → seekAt g at (beside P G) ≡ seekAt g (at + unitsF P) G
   unfolding beside seekAt unitsF
-  seek-under g at leaf G u = rw add-zero
-  seek-under g at (fork t v k n) G u =
+  seek-behind g at leaf G u = rw add-zero
+  seek-behind g at (fork t v k n) G u =
       let e : at + (rowUnits t v + unitsF k) + unitsF n ≡ at + (rowUnits t v + (unitsF k + unitsF n)) = omega arith in
-      rw (u .0) (seek-under g (at + (rowUnits t v + unitsF k)) n G (u .1) ∙ rw e)
+      rw (u .0) (seek-behind g (at + (rowUnits t v + unitsF k)) n G (u .1) ∙ rw e)
 
-  kid-under : (g : Level) (P G : Forest X) → Under g P → kid g (beside P G) ≡ kid g G
+  kid-behind : (g : Level) (P G : Forest X) → Precede g P → kid g (beside P G) ≡ kid g G
   unfolding beside kid
-  kid-under g leaf G u = refl
-  kid-under g (fork t v k n) G u = rw (eq-higher level-order g t (u .0)) (kid-under g n G (u .1))
+  kid-behind g leaf G u = refl
+  kid-behind g (fork t v k n) G u = rw (eq-higher level-order g t (u .0)) (kid-behind g n G (u .1))
 
   -- and ends before what comes after
   seek-here : (g : Level) (at : ℕ) (G : Forest X) → Over g G → seekAt g at G ≡ at
@@ -127,9 +127,9 @@ module _ {X : Type 0} where
   kid-before g leaf G o = kid-over g G o
   kid-before g (fork t v k n) G o = rw (kid-before g n G o)
 
-  pub child-under : (g : Level) (at : ℕ) (P G : Forest X) → Under g P → childOf g at (beside P G) ≡ childOf g (at + unitsF P) G
+  pub child-behind : (g : Level) (at : ℕ) (P G : Forest X) → Precede g P → childOf g at (beside P G) ≡ childOf g (at + unitsF P) G
   unfolding childOf
-  child-under g at P G u = rw (seek-under g at P G u, kid-under g P G u)
+  child-behind g at P G u = rw (seek-behind g at P G u, kid-behind g P G u)
 
   pub child-over : (g : Level) (at : ℕ) (P G : Forest X) → Over g G → childOf g at (beside P G) ≡ childOf g at P
   unfolding childOf

@@ -76,7 +76,6 @@ pub record Down (base : ℕ) (s : List ℕ) (n : ℕ) (text nodes : List ℕ) (d
   pub nodes-are : nodesAt (split text) 0 (rawIn base s 0 n) ≡ take depth nodes ++ nodesAt (levelsAt text from) lo (rawIn base s lo hi)
   pub spot-is : spotAt (split text) 0 (rawIn base s 0 n) ≡ spotAt (levelsAt text from) lo (rawIn base s lo hi)
   pub rest-is : missing (split text) (rawIn base s 0 n) ≡ missing (levelsAt text from) (rawIn base s lo hi)
-  pub count : length (split text) ≡ depth + length (levelsAt text from)
 
 -- whatever the bytes are
 pub record Going (base : ℕ) (s : List ℕ) (n : ℕ) (text nodes : List ℕ) (depth lo hi from : ℕ) : Type 0 where
@@ -85,6 +84,7 @@ pub record Going (base : ℕ) (s : List ℕ) (n : ℕ) (text nodes : List ℕ) (
   pub low : lo ≤ hi
   pub high : hi ≤ n
   pub text-in : from ≤ length text + 1
+  pub count : depth + length (levelsAt text from) ≡ length (split text)
   pub nodes-in : (j : ℕ) → j < depth → getD nodes j 0 < n
   pub down : RawStands base s 1 0 n → Down base s n text nodes depth lo hi from
 
@@ -96,8 +96,9 @@ going-top base s n text nodes h =
       low = omega arith;
       high = omega arith;
       text-in = omega arith;
+      count = omega arith;
       nodes-in = λ j l. absurd (omega arith);
-      down = λ w. record { stands = w; nodes-are = refl; spot-is = refl; rest-is = refl; count = omega arith };
+      down = λ w. record { stands = w; nodes-are = refl; spot-is = refl; rest-is = refl };
     }
 
 module _ (base : ℕ) (s : List ℕ) (n : ℕ) (text nodes : List ℕ) (depth lo hi from : ℕ) (k : Going base s n text nodes depth lo hi from) where
@@ -110,22 +111,23 @@ module _ (base : ℕ) (s : List ℕ) (n : ℕ) (text nodes : List ℕ) (depth lo
         rest-is = sym (f .rest-is ∙ rw e (missing-end lo (rawIn base s lo hi)));
       }
 
-  ended : (RawStands base s 1 0 n → length (split text) ≤ 128 → levelsAt text from ≡ [])
+  ended : (length (split text) ≤ 128 → levelsAt text from ≡ [])
       → PathFound base s n text (record { nodes = nodes; depth = depth; place = lo; from = from })
   ended e =
       record {
         few = k .few;
         place-in = omega (arith, k .low, k .high);
         from-in = k .text-in;
+        count = k .count;
         nodes-in = k .nodes-in;
-        stands = λ w h. done (e w h) w;
+        stands = λ w h. done (e h) w;
       }
 
   pub path-end : length text < from → PathFound base s n text (record { nodes = nodes; depth = depth; place = lo; from = from })
-  path-end h = ended (λ w l. levels-none text from h)
+  path-end h = ended (λ l. levels-none text from h)
 
   pub path-full : 128 ≤ depth → PathFound base s n text (record { nodes = nodes; depth = depth; place = lo; from = from })
-  path-full h = ended (λ w l. none (levelsAt text from) (omega (arith, k .down w .count)))
+  path-full h = ended (λ l. none (levelsAt text from) (omega (arith, k .count)))
     where
       none : (ls : Filter) → length ls ≡ 0 → ls ≡ []
       none [] e = refl
@@ -152,6 +154,7 @@ module _ (base : ℕ) (s : List ℕ) (n : ℕ) (text nodes : List ℕ) (depth lo
           few = k .few;
           place-in = omega (arith, b .1, k .low, k .high);
           from-in = k .text-in;
+          count = k .count;
           nodes-in = k .nodes-in;
           stands = λ w h.
               let f = k .down w in
@@ -195,6 +198,7 @@ module _ (base : ℕ) (s : List ℕ) (n : ℕ) (text nodes : List ℕ) (depth lo
           low = b .2;
           high = omega (arith, b .3, k .high);
           text-in = omega (arith, end-within text from within);
+          count = omega (arith, k .count, ap length levels);
           nodes-in = in-next i l (omega (arith, b .1, b .2, b .3, k .high));
           down = λ w.
               let f = k .down w in
@@ -204,6 +208,5 @@ module _ (base : ℕ) (s : List ℕ) (n : ℕ) (text nodes : List ℕ) (depth lo
                 nodes-are = f .nodes-are ∙ nodes-next i e p u l;
                 spot-is = f .spot-is ∙ spot-next i e p u l;
                 rest-is = f .rest-is ∙ rest-next i e p u l;
-                count = omega (arith, f .count, ap length levels);
               };
         }

@@ -17,7 +17,7 @@ use Rattle.forest.proofs.StandsLaws.{fork-units, stands-read, stands-kids}
 use Rattle.seek.specs.declared.Child.{Child}
 use Rattle.seek.specs.declared.Child.the-variants.{At, Nothing}
 use Rattle.seek.specs.Child.{childOf}
-use Rattle.seek.proofs.Beside.{beside, beside-node, beside-none, Under, over-back, seek-under}
+use Rattle.seek.proofs.Beside.{beside, beside-node, beside-none, Precede, over-back, seek-behind}
 use Rattle.seek.proofs.Parted.{stands-front, stands-back}
 
 -- a row parted before its node with the level g
@@ -25,14 +25,14 @@ pub record KidAt {X : Type 0} (g : Level) (v : List X) (k F : Forest X) : Type 0
   pub before : Forest X
   pub next : Forest X
   pub is : F ≡ beside before (fork g v k next)
-  pub under : Under g before
+  pub precedes : Precede g before
 
 module _ {X : Type 0} (g : Level) (v : List X) (k : Forest X) where
   miss-hit : miss ≡ hit v k → ⊥
   miss-hit e = let z : _≡_ {A = ℕ} 0 1 = cc in absurd (omega arith)
 
   kid-first : (n : Forest X) → KidAt g v k (fork g v k n)
-  kid-first n = record { before = leaf; next = n; is = sym (beside-none (fork g v k n)); under = tt }
+  kid-first n = record { before = leaf; next = n; is = sym (beside-none (fork g v k n)); precedes = tt }
 
   kid-next : (t : Level) (w : List X) (j n : Forest X) → Rows (fork t w j n) → KidAt g v k n → KidAt g v k (fork t w j n)
   kid-next t w j n r c =
@@ -40,7 +40,7 @@ module _ {X : Type 0} (g : Level) (v : List X) (k : Forest X) where
         before = fork t w j (c .before);
         next = c .next;
         is = rw (beside-node t w j (c .before) (fork g v k (c .next))) (ap (fork t w j) (c .is));
-        under = (over-back t (c .before) (fork g v k (c .next)) (rw (c .is) at (r .0)) .0, c .under);
+        precedes = (over-back t (c .before) (fork g v k (c .next)) (rw (c .is) at (r .0)) .0, c .precedes);
       }
 
   pub kid-at : (F : Forest X) → Rows F → kid g F ≡ hit v k → KidAt g v k F
@@ -66,6 +66,7 @@ pub record FoundAt (base : ℕ) (s : List ℕ) (g : Level) (d lo hi i e p : ℕ)
   pub found : kid g (rawIn base s lo hi) ≡ hit own (rawIn base s e p)
   pub place : seekAt g lo (rawIn base s lo hi) ≡ i
   pub end : e ≡ i + rowUnits g own
+  pub within : p ≤ hi
   pub node : Stands whole Whole base s d i p (fork g own (rawIn base s e p) leaf)
   pub kids : RawStands base s (d + 1) e p
 
@@ -79,16 +80,13 @@ module _ (base : ℕ) (s : List ℕ) (g : Level) (d lo hi : ℕ) (w : RawStands 
     c : KidAt g own k (rawIn base s lo hi)
     c = kid-at g own k (rawIn base s lo hi) (w .rows) e
 
-    one : Forest (List ℕ)
-    one = fork g own k leaf
-
     -- where it stands
     at : ℕ
     at = lo + unitsF (c .before)
 
     place-is : seekAt g lo (rawIn base s lo hi) ≡ at
     unfolding at
-    place-is = ap (seekAt g lo) (c .is) ∙ seek-under g lo (c .before) (fork g own k (c .next)) (c .under) ∙ seek-first g (lo + unitsF (c .before)) own k (c .next)
+    place-is = ap (seekAt g lo) (c .is) ∙ seek-behind g lo (c .before) (fork g own k (c .next)) (c .precedes) ∙ seek-first g (lo + unitsF (c .before)) own k (c .next)
 
     back : Stands whole Whole base s d at hi (fork g own k (c .next))
     unfolding at
@@ -111,9 +109,13 @@ module _ (base : ℕ) (s : List ℕ) (g : Level) (d lo hi : ℕ) (w : RawStands 
           found = rw kids-read e;
           place = place-is;
           end = refl;
+          within = omega (arith, back .size, fork-units g own k (c .next));
           node = rw kids-read node-alone;
           kids = rw kids-read kids-there;
         }
+
+    pub found-kid : FoundAt base s g d lo hi (seekAt g lo (rawIn base s lo hi)) (seekAt g lo (rawIn base s lo hi) + rowUnits g own) (seekAt g lo (rawIn base s lo hi) + rowUnits g own + unitsF k)
+    found-kid = rw place-is found-hit
 
   pub found-at : (i e p : ℕ) → At i e p ≡ childOf g lo (rawIn base s lo hi) → FoundAt base s g d lo hi i e p
   unfolding childOf
@@ -124,11 +126,10 @@ module _ (base : ℕ) (s : List ℕ) (g : Level) (d lo hi : ℕ) (w : RawStands 
           → FoundAt base s g d lo hi i e p
       go miss h z = let y : _≡_ {A = ℕ} 0 1 = cc in absurd (omega arith)
       go (hit v k) h z =
-          let y = rw (place-is v k h) at z in
-          let a : i ≡ at v k h = cc in
-          let b : e ≡ at v k h + rowUnits g v = cc in
-          let c : p ≡ at v k h + rowUnits g v + unitsF k = cc in
-          rw (a, b, c) (found-hit v k h)
+          let a : i ≡ seekAt g lo (rawIn base s lo hi) = cc in
+          let b : e ≡ seekAt g lo (rawIn base s lo hi) + rowUnits g v = cc in
+          let c : p ≡ seekAt g lo (rawIn base s lo hi) + rowUnits g v + unitsF k = cc in
+          rw (a, b, c) (found-kid v k h)
 
   pub missed-at : (i : ℕ) → Nothing i ≡ childOf g lo (rawIn base s lo hi) → MissedAt base s g lo hi i
   unfolding childOf

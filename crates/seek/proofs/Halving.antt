@@ -28,7 +28,7 @@ use Rattle.seek.specs.declared.Child.the-variants.{At, Nothing}
 use Rattle.seek.specs.declared.Probe.{Probe}
 use Rattle.seek.specs.Child.{childOf}
 use Rattle.seek.specs.Probe.{markAt, Probed}
-use Rattle.seek.proofs.Beside.{beside, beside-node, beside-none, beside-assoc, units-beside, Under, under-first, under-less, under-node, rows-back, child-under, child-over}
+use Rattle.seek.proofs.Beside.{beside, beside-node, beside-none, beside-assoc, units-beside, Precede, precede-first, precede-less, precede-node, rows-back, child-behind, child-over}
 use Rattle.seek.proofs.Marks.{Cut}
 use Rattle.seek.proofs.Parted.{stands-front, stands-back, mark-first, cut-stands}
 
@@ -66,12 +66,12 @@ pub record Left (base : ℕ) (s : List ℕ) (g : Level) (d lo hi a b : ℕ) : Ty
   pub stands : Stands whole Whole base s d a b row
   pub same-child : childOf g a row ≡ childOf g lo (rawIn base s lo hi)
 
-pub record Kept (base : ℕ) (s : List ℕ) (g : Level) (d lo hi a b : ℕ) : Type 0 where
+pub record Narrowed (base : ℕ) (s : List ℕ) (g : Level) (d lo hi a b : ℕ) : Type 0 where
   pub depth : d < 255
   pub left : RawStands base s d lo hi → Left base s g d lo hi a b
 
-pub kept-all : (base : ℕ) (s : List ℕ) (g : Level) (d lo hi : ℕ) → d < 255 → Kept base s g d lo hi lo hi
-kept-all base s g d lo hi h = record { depth = h; left = λ w. record { row = rawIn base s lo hi; stands = w; same-child = refl } }
+pub narrow-all : (base : ℕ) (s : List ℕ) (g : Level) (d lo hi : ℕ) → d < 255 → Narrowed base s g d lo hi lo hi
+narrow-all base s g d lo hi h = record { depth = h; left = λ w. record { row = rawIn base s lo hi; stands = w; same-child = refl } }
 
 child-none : {X : Type 0} (g : Level) (at : ℕ) (F : Forest X) → unitsF F ≡ 0 → childOf g at F ≡ Nothing at
 unfolding childOf seekAt kid unitsF
@@ -88,8 +88,8 @@ child-same i a b = rw (a, b)
 
 -- a turn: the sibling at the unit m
 module _ (base : ℕ) (s : List ℕ) (g : Level) (d lo hi a b : ℕ) where
-  pub kept-none : Kept base s g d lo hi a b → b ≤ a → RawStands base s d lo hi → Nothing a ≡ childOf g lo (rawIn base s lo hi)
-  kept-none k h w =
+  pub narrow-none : Narrowed base s g d lo hi a b → b ≤ a → RawStands base s d lo hi → Nothing a ≡ childOf g lo (rawIn base s lo hi)
+  narrow-none k h w =
       let l = k .left w in
       sym (child-none g a (l .row) (omega (arith, l .stands .size))) ∙ l .same-child
 
@@ -122,18 +122,18 @@ module _ (base : ℕ) (s : List ℕ) (g : Level) (d lo hi a b : ℕ) where
     rest : Stands whole Whole base s d (m + rowUnits (c .text) (c .own) + unitsF (c .kids)) b (c .next)
     rest = stands-next wholes base s d m b (c .text) (c .own) (c .kids) (c .next) back
 
-    under : Under (c .text) (c .before)
-    under = under-first (c .before) (c .text) (c .own) (c .kids) (c .next) (parts .rows)
+    precedes : Precede (c .text) (c .before)
+    precedes = precede-first (c .before) (c .text) (c .own) (c .kids) (c .next) (parts .rows)
 
     child-less : levelLt (c .text) g ≡ true → childOf g (m + rowUnits (c .text) (c .own) + unitsF (c .kids)) (c .next) ≡ childOf g a F
     unfolding unitsF beside
     child-less p =
         let one = fork (c .text) (c .own) (c .kids) leaf in
-        let u : Under g (beside (c .before) one) = under-node g (c .before) (c .text) (c .own) (c .kids) (under-less (c .text) g (c .before) p under) p in
+        let u : Precede g (beside (c .before) one) = precede-node g (c .before) (c .text) (c .own) (c .kids) (precede-less (c .text) g (c .before) p precedes) p in
         let e : F ≡ beside (beside (c .before) one) (c .next) = c .is ∙ beside-assoc (c .before) one (c .next) in
         let q : a + unitsF (beside (c .before) one) ≡ m + rowUnits (c .text) (c .own) + unitsF (c .kids) =
         omega (arith, at-m, units-beside (c .before) one) in
-        rw (e, child-under g a (beside (c .before) one) (c .next) u, q)
+        rw (e, child-behind g a (beside (c .before) one) (c .next) u, q)
 
     child-greater : levelLt g (c .text) ≡ true → childOf g a (c .before) ≡ childOf g a F
     child-greater p =
@@ -142,13 +142,13 @@ module _ (base : ℕ) (s : List ℕ) (g : Level) (d lo hi a b : ℕ) where
 
     child-equal : c .text ≡ g → At m (m + rowUnits (c .text) (c .own)) (m + rowUnits (c .text) (c .own) + unitsF (c .kids)) ≡ childOf g a F
     child-equal e =
-        let u : Under g (c .before) = rw e at under in
+        let u : Precede g (c .before) = rw e at precedes in
         let q : a + unitsF (c .before) ≡ m = sym at-m in
-        rw (c .is, child-under g a (c .before) (fork (c .text) (c .own) (c .kids) (c .next)) u, q)
+        rw (c .is, child-behind g a (c .before) (fork (c .text) (c .own) (c .kids) (c .next)) u, q)
         (sym (child-here g m (c .text) (c .own) (c .kids) (c .next) e))
 
   -- in the words of the code
-  module _ (p : Probe) (r : Row) (l : List ℕ) (o : Order) (k : Kept base s g d lo hi a b) (probed : Probed s d a b p)
+  module _ (p : Probe) (r : Row) (l : List ℕ) (o : Order) (k : Narrowed base s g d lo hi a b) (probed : Probed s d a b p)
       (row : RowAt base s (p .node) b r) (read : l ≡ levelIn base s (p .node) b) (order : o ≡ orderOf l g) where
     cut : (w : RawStands base s d lo hi) → Cut (k .left w .row) (p .node - a)
     cut w = cut-stands wholes base s d a b (k .left w .row) (k .left w .stands) (k .depth) (p .node) (probed .low) (omega (arith, probed .high, probed .before)) (probed .flat)
@@ -168,8 +168,8 @@ module _ (base : ℕ) (s : List ℕ) (g : Level) (d lo hi a b : ℕ) where
         absurd (omega (arith, probed .deep (r .past) (omega (arith, row .on, row .within)) h, mark-first wholes base s d (r .past) b (cut w .next) n (omega (arith, probed .before)))))
         (lt-or-ge (p .mid) (r .past))
 
-    pub kept-less : (x : ℕ) → x ≡ max (r .past) (p .mid + 1) → o ≡ Less → Kept base s g d lo hi x b
-    kept-less x e q =
+    pub narrow-less : (x : ℕ) → x ≡ max (r .past) (p .mid + 1) → o ≡ Less → Narrowed base s g d lo hi x b
+    narrow-less x e q =
         record {
           depth = k .depth;
           left = λ w.
@@ -185,8 +185,8 @@ module _ (base : ℕ) (s : List ℕ) (g : Level) (d lo hi a b : ℕ) where
               };
         }
 
-    pub kept-greater : o ≡ Greater → Kept base s g d lo hi a (p .node)
-    kept-greater q =
+    pub narrow-greater : o ≡ Greater → Narrowed base s g d lo hi a (p .node)
+    narrow-greater q =
         record {
           depth = k .depth;
           left = λ w.
@@ -199,8 +199,8 @@ module _ (base : ℕ) (s : List ℕ) (g : Level) (d lo hi a b : ℕ) where
               };
         }
 
-    pub kept-equal : o ≡ Equal → RawStands base s d lo hi → At (p .node) (r .end) (r .past) ≡ childOf g lo (rawIn base s lo hi)
-    kept-equal q w =
+    pub narrow-equal : o ≡ Equal → RawStands base s d lo hi → At (p .node) (r .end) (r .past) ≡ childOf g lo (rawIn base s lo hi)
+    narrow-equal q w =
         let f = k .left w in
         let t : cut w .text ≡ g = sym (text-is w) ∙ order-equal l g (sym order ∙ q) in
         let e : r .end ≡ p .node + rowUnits (cut w .text) (cut w .own) = row .end-is ∙ end (p .node) (f .row) (f .stands) (probed .low) (cut w) in

@@ -5,3 +5,4 @@ pub mod StepLaws
 pub mod Halving
 pub mod Found
 pub mod Descent
+pub mod PathLaws

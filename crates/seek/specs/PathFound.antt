@@ -22,5 +22,6 @@ pub record PathFound (base : ℕ) (s : List ℕ) (n : ℕ) (text : List ℕ) (p 
   pub few : p .depth ≤ 128
   pub place-in : p .place ≤ n
   pub from-in : p .from ≤ length text + 1
+  pub count : p .depth + length (levelsAt text (p .from)) ≡ length (split text)
   pub nodes-in : (j : ℕ) → j < p .depth → getD (p .nodes) j 0 < n
   pub stands : RawStands base s 1 0 n → length (split text) ≤ 128 → PathOf (rawIn base s 0 n) text p

@@ -2,18 +2,18 @@
 use borrow.Author.Needs.{needs}
 use Prim.Native.Nat.{_≤_, _-_, max}
 use native.Mathlib.Omega.{arith}
-use Rattle.seek.proofs.Halving.{Kept, kept-all, kept-less, kept-greater, kept-equal, kept-none}
+use Rattle.seek.proofs.Halving.{Narrowed, narrow-all, narrow-less, narrow-greater, narrow-equal, narrow-none}
 use Rattle.seek.proofs.children.find_child.Statement.{statement}
 use Rattle.seek.proofs.children.find_child.Tie as tie
 
 abbrev Inv-loop : tie.InvT-loop
-Inv-loop s base lo hi d level a₀ b₀ few₀ a b few = (lo ≤ a) × (a ≤ max lo b) × (b ≤ hi) × Kept base s level d lo hi a b
+Inv-loop s base lo hi d level a₀ b₀ few₀ a b few = (lo ≤ a) × (a ≤ max lo b) × (b ≤ hi) × Narrowed base s level d lo hi a b
 
 abbrev μ-loop : tie.MeasureT-loop
 μ-loop s base lo hi d level a₀ b₀ few₀ a b few = b - a
 
 loop-holds : tie.Need-loop-holds Inv-loop μ-loop
-loop-holds c = search (needs, kept-all)
+loop-holds c = search (needs, narrow-all)
 
 probe-requires : tie.Need-probe-requires Inv-loop μ-loop
 probe-requires c κs = search needs
@@ -45,7 +45,7 @@ loop-again c =
       search needs,
       search needs,
       search needs,
-      kept-less _ _ _ _ _ _ _ _ (e .before .before .before .probe .result) (e .before .before .row-at .result) _ _ (e .before .before .before .before .before .loop .inv .3)
+      narrow-less _ _ _ _ _ _ _ _ (e .before .before .before .probe .result) (e .before .before .row-at .result) _ _ (e .before .before .before .before .before .loop .inv .3)
           (e .before .before .before .probe .ensures) (e .before .before .row-at .ensures) (e .before .level-at .ensures) (e .compare .ensures) _ (c .larger .ensures) (search needs),
     )
 
@@ -53,7 +53,7 @@ enum-told-2 : tie.Need-enum-told-2 Inv-loop μ-loop
 enum-told-2 c = search needs
 
 returns : tie.Need-returns Inv-loop μ-loop
-returns c = search (needs, kept-equal)
+returns c = search (needs, narrow-equal)
 
 enum-told-3 : tie.Need-enum-told-3 Inv-loop μ-loop
 enum-told-3 c = search needs
@@ -62,10 +62,10 @@ loop-less-2 : tie.Need-loop-less-2 Inv-loop μ-loop
 loop-less-2 c = search needs
 
 loop-again-2 : tie.Need-loop-again-2 Inv-loop μ-loop
-loop-again-2 c = search (needs, kept-greater)
+loop-again-2 c = search (needs, narrow-greater)
 
 returns-2 : tie.Need-returns-2 Inv-loop μ-loop
-returns-2 c = search (needs, kept-none)
+returns-2 c = search (needs, narrow-none)
 
 pub find-child-spec : {M : Type 1} → statement M
 find-child-spec =
