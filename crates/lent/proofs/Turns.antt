@@ -55,7 +55,7 @@ back-step p f n t s h k =
     rw (set-patch _ _ _ i, c, e) (patch-prepend p (getD t f 0 ∷ []) (part (f + 1) n t) s b)
 
 -- the turns of fill
-replicate-last : (n b : ℕ) → replicate n b ++ (b ∷ []) ≡ replicate (n + 1) b
+pub replicate-last : (n b : ℕ) → replicate n b ++ (b ∷ []) ≡ replicate (n + 1) b
 replicate-last n b = go n ∙ ap (λ (m : ℕ). replicate m b) (sym (add-one n))
   where
     go : (n : ℕ) → replicate n b ++ (b ∷ []) ≡ replicate (suc n) b

@@ -20,7 +20,7 @@ use Rattle.forest.specs.Places.{unitAt}
 use Rattle.room.specs.Ways.{past, down, Way, wide, ahead, downs, front}
 use Rattle.room.specs.Changes.{moved, counted, belows, countsMoved, Under, none-under, more-under}
 use Rattle.room.specs.declared.Load.{Load}
-use Rattle.room.proofs.Middle.{read-mid, write-mid}
+use Rattle.room.proofs.Middle.{counted-mid}
 use Rattle.room.proofs.WayLaws.{wide-add}
 
 module _ {X : Type 0} (write' : X → List ℕ) (t : Level) (v : List X) (a z : List ℕ) (p : ℕ) (at : length a ≡ p) where
@@ -38,19 +38,16 @@ module _ {X : Type 0} (write' : X → List ℕ) (t : Level) (v : List X) (a z : 
   place : length ahead' ≡ p + 4
   place = rw (length-append, length-append, length-bytes, length-bytes) (omega (arith, at))
 
-  pub below-of : (b : ℕ) → b < 65536 → read 2 (p + 4) (a ++ (rowBytes write' t v b ++ z)) ≡ b
-  below-of b h = rw (head-of b) (read-mid 2 b ahead' rest (p + 4) place h)
-
-  pub below-put : (b c : ℕ) → write (p + 4) (bytes 2 c) (a ++ (rowBytes write' t v b ++ z)) ≡ a ++ (rowBytes write' t v c ++ z)
-  below-put b c = rw (head-of b, head-of c) (write-mid ahead' (bytes 2 b) (bytes 2 c) rest (p + 4) place (rw (length-bytes, length-bytes)))
+  pub below-moved : (more less b : ℕ) → b < 65536 → counted (p + 4) more less (a ++ (rowBytes write' t v b ++ z)) ≡ a ++ (rowBytes write' t v (moved more less b) ++ z)
+  below-moved more less b h = rw (head-of b, head-of (moved more less b)) (counted-mid more less b ahead' rest (p + 4) place h)
 
 module _ {X : Type 0} (u : Form X) (base more less b c : ℕ) (change : b + more ≡ c + less) where
   wide-moved : (w : Way X) → moved more less (wide w b) ≡ wide w c
   wide-moved w = omega (arith, wide-add w b more, wide-add w c less, ap (wide w) change)
 
   down-step : (t : Level) (v : List X) (n : Forest X) (w : Way X) (at : ℕ) (s : List ℕ) → belows more less base (downs at (down t v n ∷ w)) s
-      ≡ belows more less base (downs (at + rowUnits t v) w) (write (unitAt base at + 4) (bytes 2 (moved more less (read 2 (unitAt base at + 4) s))) s)
-  unfolding belows downs counted
+      ≡ belows more less base (downs (at + rowUnits t v) w) (counted (unitAt base at + 4) more less s)
+  unfolding belows downs
   down-step t v n w at s = refl
 
   pub belows-front : (w : Way X) (a z : List ℕ) (at : ℕ) → length a ≡ unitAt base at → wide w b < 65536
@@ -66,12 +63,19 @@ module _ {X : Type 0} (u : Form X) (base more less b c : ℕ) (change : b + more
       let l : length (a ++ rowBytes (u .write) t v (wide w c)) ≡ unitAt base (at + rowUnits t v) =
       rw (length-append, length-row u t v (wide w c)) (omega (arith, h)) in
       let ih = belows-front w (a ++ rowBytes (u .write) t v (wide w c)) z (at + rowUnits t v) l (omega (arith, k)) in
-      let r : read 2 (unitAt base at + 4) (a ++ (rowBytes (u .write) t v (wide w b) ++ (front (u .write) w b ++ z))) ≡ wide w b =
-      below-of (u .write) t v a (front (u .write) w b ++ z) (unitAt base at) h (wide w b) (omega (arith, k)) in
-      let e : write (unitAt base at + 4) (bytes 2 (wide w c)) (a ++ (rowBytes (u .write) t v (wide w b) ++ (front (u .write) w b ++ z))) ≡ a ++ (rowBytes (u .write) t v (wide w c) ++ (front (u .write) w b ++ z)) =
-      below-put (u .write) t v a (front (u .write) w b ++ z) (unitAt base at) h (wide w b) (wide w c) in
-      rw (append-assoc (rowBytes (u .write) t v (wide w b)) (front (u .write) w b) z, append-assoc (rowBytes (u .write) t v (wide w c)) (front (u .write) w c) z, down-step t v n w at, r, wide-moved w, e)
+      let e : counted (unitAt base at + 4) more less (a ++ (rowBytes (u .write) t v (wide w b) ++ (front (u .write) w b ++ z))) ≡ a ++ (rowBytes (u .write) t v (wide w c) ++ (front (u .write) w b ++ z)) =
+      rw (← wide-moved w) (below-moved (u .write) t v a (front (u .write) w b ++ z) (unitAt base at) h more less (wide w b) (omega (arith, k))) in
+      rw (append-assoc (rowBytes (u .write) t v (wide w b)) (front (u .write) w b) z, append-assoc (rowBytes (u .write) t v (wide w c)) (front (u .write) w c) z, down-step t v n w at, e)
       (rw (append-assoc a (rowBytes (u .write) t v (wide w c)) (front (u .write) w b ++ z), append-assoc a (rowBytes (u .write) t v (wide w c)) (front (u .write) w c ++ z)) at ih)
+
+pub length-counted : (at more less : ℕ) (s : List ℕ) → length (counted at more less s) ≡ length s
+unfolding counted
+length-counted at more less s = write-framed at _ s .long
+
+pub length-belows : (more less base : ℕ) (is s : List ℕ) → length (belows more less base is s) ≡ length s
+unfolding belows
+length-belows more less base [] s = refl
+length-belows more less base (i ∷ is) s = length-belows more less base is (counted (unitAt base i + 4) more less s) ∙ length-counted (unitAt base i + 4) more less s
 
 -- the nodes of an array from a place on
 module _ (nodes : List ℕ) (count j : ℕ) (few : count ≤ length nodes) (h : j < count) where
@@ -97,15 +101,9 @@ pub record BelowLeft (more less base : ℕ) (nodes : List ℕ) (count : ℕ) (s�
   pub long : length s ≡ length s₀
   pub on : j ≤ count
 
-belows-some : (more less base i : ℕ) (is s : List ℕ) → belows more less base (i ∷ is) s
-    ≡ belows more less base is (write (unitAt base i + 4) (bytes 2 (moved more less (read 2 (unitAt base i + 4) s))) s)
-unfolding belows counted
+belows-some : (more less base i : ℕ) (is s : List ℕ) → belows more less base (i ∷ is) s ≡ belows more less base is (belows more less base (i ∷ []) s)
+unfolding belows
 belows-some more less base i is s = refl
-
-belows-one : (more less base i : ℕ) (s : List ℕ) → belows more less base (i ∷ []) s
-    ≡ write (unitAt base i + 4) (bytes 2 (moved more less (read 2 (unitAt base i + 4) s))) s
-unfolding belows counted
-belows-one more less base i s = refl
 
 pub one-moved : (more less base i : ℕ) (s : List ℕ) {t : List ℕ} → t ≡ counted (base + i * 16 + 4) more less s → t ≡ belows more less base (i ∷ []) s
 unfolding belows
@@ -131,12 +129,11 @@ module _ (more less base : ℕ) (nodes : List ℕ) (count : ℕ) where
     pub below-step : length nodes ≡ 128 → count ≤ 128 → j < count → (t : List ℕ) → t ≡ belows more less base (getD nodes j 0 ∷ []) s
         → BelowLeft more less base nodes count s₀ (j + 1) t
     below-step l few h t f =
-        let f′ = f ∙ belows-one more less base (getD nodes j 0) s in
         record {
           same =
-              rw f′ (sym (belows-some more less base (getD nodes j 0) (drop (j + 1) (take count nodes)) s))
+              rw f (sym (belows-some more less base (getD nodes j 0) (drop (j + 1) (take count nodes)) s))
               ∙ sym (ap (λ (is : List ℕ). belows more less base is s) (nodes-on nodes count j (omega (arith, l)) h)) ∙ r .same;
-          long = ap length f′ ∙ write-framed (unitAt base (getD nodes j 0) + 4) (bytes 2 (moved more less (read 2 (unitAt base (getD nodes j 0) + 4) s))) s .long ∙ r .long;
+          long = ap length f ∙ length-belows more less base (getD nodes j 0 ∷ []) s ∙ r .long;
           on = omega arith;
         }
 

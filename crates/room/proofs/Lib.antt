@@ -5,3 +5,6 @@ pub mod Gaps
 pub mod ReachLaws
 pub mod RunLaws
 pub mod MakeLaws
+pub mod ViewLaws
+pub mod ChainLaws
+pub mod HeaderLaws

@@ -15,15 +15,6 @@ use Rattle.room.specs.Runs.{runUnits, runBytes, runMarks}
 use Rattle.room.specs.Changes.{counted, belows, countsMoved, noLoad, oneLoad, madeRun, madeChain, madeUnit, takenRun, takenChain, takenUnit}
 use Rattle.room.proofs.RunLaws.{length-run, length-run-marks}
 
-pub length-counted : (at more less : ℕ) (s : List ℕ) → length (counted at more less s) ≡ length s
-unfolding counted
-length-counted at more less s = write-framed at _ s .long
-
-pub length-belows : (more less base : ℕ) (is s : List ℕ) → length (belows more less base is s) ≡ length s
-unfolding belows
-length-belows more less base [] s = refl
-length-belows more less base (i ∷ is) s = length-belows more less base is (counted (unitAt base i + 4) more less s) ∙ length-counted (unitAt base i + 4) more less s
-
 pub length-opened : (at end by : ℕ) (s : List ℕ) → at ≤ end → end + by ≤ length s → length (opened at end by s) ≡ length s
 length-opened at end by s h k =
     let l : length (part at (end - at) s) ≡ end - at = length-part at (end - at) s (omega arith) in
@@ -33,29 +24,6 @@ pub length-closed : (at end by : ℕ) (s : List ℕ) → at ≤ end → end + by
 length-closed at end by s h k =
     let l : length (part (at + by) (end - at) s) ≡ end - at = length-part (at + by) (end - at) s (omega arith) in
     ap length (close-in at end by s k) ∙ length-patch at (part (at + by) (end - at) s) s (omega (arith, l))
-
--- make_chain, step by step
-module _ (base n place c : ℕ) (nodes s s₁ s₂ : List ℕ) (at : place ≤ n) (room : unitAt base (n + c) ≤ length s)
-    (e₁ : s₁ ≡ belows c 0 base nodes s) (e₂ : s₂ ≡ opened (base + place * 16) (base + n * 16) (c * 16) s₁) where
-  l₁ : length s₁ ≡ length s
-  l₁ = ap length e₁ ∙ length-belows c 0 base nodes s
-
-  l₂ : length s₂ ≡ length s
-  l₂ = ap length e₂ ∙ length-opened (base + place * 16) (base + n * 16) (c * 16) s₁ (omega arith) (omega (arith, l₁)) ∙ l₁
-
-  pub rows-fit : unitAt base (place + c) ≤ length s₂
-  rows-fit = omega (arith, l₂)
-
-  module _ (x : List ℕ) (gs : Filter) (long : length x ≡ 16) (many : c ≡ runUnits gs) (s₃ s₄ : List ℕ) (room₂ : 64 + (n + c) ≤ length s)
-      (e₃ : s₃ ≡ patch (unitAt base place) (runBytes x gs) s₂) (e₄ : s₄ ≡ opened (64 + place) (64 + n) c s₃) where
-    l₃ : length s₃ ≡ length s
-    l₃ = ap length e₃ ∙ length-patch (unitAt base place) (runBytes x gs) s₂ (omega (arith, length-run x gs long, l₂, many)) ∙ l₂
-
-    l₄ : length s₄ ≡ length s
-    l₄ = ap length e₄ ∙ length-opened (64 + place) (64 + n) c s₃ (omega arith) (omega (arith, l₃)) ∙ l₃
-
-    pub marks-fit : 64 + (place + c) ≤ length s₄
-    marks-fit = omega (arith, l₄)
 
 pub run-made : (base n place d c : ℕ) (nodes x : List ℕ) (gs : Filter) (s s₁ s₂ s₃ s₄ s₅ : List ℕ)
     → s₁ ≡ belows c 0 base nodes s → s₂ ≡ opened (base + place * 16) (base + n * 16) (c * 16) s₁

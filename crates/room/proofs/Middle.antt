@@ -11,6 +11,7 @@ use Rattle.lent.specs.Total.{read, write}
 use Rattle.lent.proofs.Parts.{length-patch, patch-append}
 use Rattle.lent.proofs.Digits.{length-bytes, be-bytes}
 use Rattle.lent.proofs.Anywhere.{read-in, write-in}
+use Rattle.room.specs.Changes.{moved, counted}
 
 pub part-mid : (a v z : List ℕ) (p w : ℕ) → length a ≡ p → length v ≡ w → part p w (a ++ (v ++ z)) ≡ v
 unfolding part
@@ -39,3 +40,10 @@ pub then-written : (at k : ℕ) (x y s s′ t : List ℕ) → k ≡ at + length 
 then-written at k x y s s′ t z h e f =
     let l : length s′ ≡ length s = ap length e ∙ length-patch at x s (omega arith) in
     f ∙ write-in k y s′ (omega (arith, l)) ∙ rw (z, e) (patch-append at x y s (omega arith))
+
+-- a number of two bytes that is moved
+pub counted-mid : (more less x : ℕ) (a z : List ℕ) (p : ℕ) → length a ≡ p → x < 65536 → counted p more less (a ++ (bytes 2 x ++ z)) ≡ a ++ (bytes 2 (moved more less x) ++ z)
+unfolding counted
+counted-mid more less x a z p h k =
+    ap (λ (y : ℕ). write p (bytes 2 (moved more less y)) (a ++ (bytes 2 x ++ z))) (read-mid 2 x a z p h k)
+    ∙ write-mid a (bytes 2 x) (bytes 2 (moved more less x)) z p h (rw (length-bytes, length-bytes))

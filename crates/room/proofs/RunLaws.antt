@@ -90,7 +90,7 @@ unfolding runBytes runUnits
 length-run x [] h = h
 length-run x (g ∷ gs) h = rw (length-append, length-append, length-head, length-run x gs h) (omega (arith, length-level g))
 
-run-on : (x l : List ℕ) (gs : Filter) → runBytes x (l ∷ gs) ≡ (headBytes l (lastOwn gs) (runUnits gs - lastOwn gs) ++ levelBytes l) ++ runBytes x gs
+pub run-on : (x l : List ℕ) (gs : Filter) → runBytes x (l ∷ gs) ≡ (headBytes l (lastOwn gs) (runUnits gs - lastOwn gs) ++ levelBytes l) ++ runBytes x gs
 unfolding runBytes
 run-on x l gs = refl
 
@@ -174,7 +174,7 @@ unfolding runMarks runUnits
 length-run-marks d [] = refl
 length-run-marks d (g ∷ gs) = rw (length-append, length-replicate, length-run-marks (d + 1) gs) (omega arith)
 
-marks-on : (d : ℕ) (l : List ℕ) (gs : Filter) → runMarks d (l ∷ gs) ≡ (d ∷ replicate (levelUnits l - 1) 255) ++ runMarks (d + 1) gs
+pub marks-on : (d : ℕ) (l : List ℕ) (gs : Filter) → runMarks d (l ∷ gs) ≡ (d ∷ replicate (levelUnits l - 1) 255) ++ runMarks (d + 1) gs
 unfolding runMarks
 marks-on d l gs = refl
 

@@ -2,3 +2,4 @@ pub mod Ways
 pub mod Reach
 pub mod Runs
 pub mod Changes
+pub mod View
