@@ -5,4 +5,6 @@ pub mod StepLaws
 pub mod Halving
 pub mod Found
 pub mod Descent
+pub mod PathNodes
 pub mod PathLaws
+pub mod Holds

@@ -21,12 +21,12 @@ use Rattle.seek.proofs.Marks.{Cut, cut-at}
 
 -- a part that holds two lists
 module _ (p w a b : ℕ) (x y s : List ℕ) (e : part p w s ≡ x ++ y) (h : length x ≡ a) (k : w ≡ a + b) where
-  front-part : part p a s ≡ x
+  pub front-part : part p a s ≡ x
   front-part =
       let z : min a w ≡ a = omega arith in
       sym (take-part a p w s ∙ rw z) ∙ ap (take a) e ∙ take-at x y a h
 
-  back-part : part (p + a) b s ≡ y
+  pub back-part : part (p + a) b s ≡ y
   back-part =
       let z : w - a ≡ b = omega arith in
       sym (drop-part a p w s ∙ rw z) ∙ ap (drop a) e ∙ drop-at x y a h

@@ -21,10 +21,10 @@ pub enum Child {
 }
 
 // Where a search looks next: the first unit of a sibling, a unit that it holds, and how many siblings are passed before the row is halved.
-pub struct Probe {
-    pub node: usize,
-    pub mid: usize,
-    pub few: usize,
+struct Probe {
+    node: usize,
+    mid: usize,
+    few: usize,
 }
 
 // The nodes of a path, as far as they are there: the first unit of each, and how many; where the first that is missing would go,
