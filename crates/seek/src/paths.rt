@@ -19,26 +19,17 @@ pub fn find_path(s: &[u8], base: usize, n: usize, text: &[u8]) -> Path
     let mut from: usize = 0;
     while depth < 128 {
         if size < from {
-            return Path {
-                nodes,
-                depth,
-                place: lo,
-                from,
-            };
+            break;
         }
-        let end = level::level_end(text, from);
-        let child = crate::find_child(s, base, lo, hi, depth + 1, &text[from..end]);
+        let stop = level::level_end(text, from);
+        let child = crate::find_child(s, base, lo, hi, depth + 1, &text[from..stop]);
         match child {
-            Child::At {
-                node,
-                end: below,
-                past,
-            } => {
+            Child::At { node, end, past } => {
                 nodes[depth] = node;
                 depth += 1;
-                lo = below;
+                lo = end;
                 hi = past;
-                from = end + 1;
+                from = stop + 1;
             }
             Child::Nothing { place } => {
                 return Path {

@@ -16,9 +16,6 @@ abbrev μ-loop : tie.MeasureT-loop
 loop-holds : tie.Need-loop-holds Inv-loop μ-loop
 loop-holds c = search (needs, going-top)
 
-returns : tie.Need-returns Inv-loop μ-loop
-returns c = search (needs, path-end)
-
 level-end-requires : tie.Need-level-end-requires Inv-loop μ-loop
 level-end-requires c κs = search needs
 
@@ -64,11 +61,14 @@ loop-again c = search (needs, going-next)
 enum-known-child-2 : tie.Need-enum-known-child-2 Inv-loop μ-loop
 enum-known-child-2 c = search needs
 
+returns : tie.Need-returns Inv-loop μ-loop
+returns c = search (needs, path-missing)
+
 returns-2 : tie.Need-returns-2 Inv-loop μ-loop
-returns-2 c = search (needs, path-missing)
+returns-2 c = search (needs, path-full)
 
 returns-3 : tie.Need-returns-3 Inv-loop μ-loop
-returns-3 c = search (needs, path-full)
+returns-3 c = search (needs, path-end)
 
 pub find-path-spec : {M : Type 1} → statement M
 find-path-spec =
@@ -77,7 +77,6 @@ find-path-spec =
     Inv-loop
     μ-loop
     loop-holds
-    returns
     level-end-requires
     add-find-child
     sub-find-child
@@ -92,5 +91,6 @@ find-path-spec =
     loop-less
     loop-again
     enum-known-child-2
+    returns
     returns-2
     returns-3)
