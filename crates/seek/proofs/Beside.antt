@@ -1,17 +1,15 @@
 -- A row of siblings in two parts, one behind the other: its units, its bytes, its marks, its order, and a search in it. Assumes nothing.
 use mathlib.Core.Path.{_≡_, refl, sym, ap, _∙_}
-use mathlib.Core.Bool.{Bool, true, false, cond}
-use mathlib.Core.List.{List, [], _∷_, _++_, append-assoc}
-use Prim.Native.Nat.{ℕ, suc, _+_, _-_, _*_, _≤_, _<_}
-use native.Mathlib.Nat.{zero-add, add-zero, add-assoc}
+use mathlib.Core.Bool.{true}
+use mathlib.Core.List.{List, _++_, append-assoc}
+use Prim.Native.Nat.{ℕ, _+_, _-_}
+use native.Mathlib.Nat.{zero-add, add-zero}
 use native.Mathlib.Omega.{arith}
-use lib.ListN.{length, replicate, length-append, length-replicate}
-use Rattle.level.specs.Kinds.{same}
 use Rattle.held.specs.Order.{Level, levelLt}
 use Rattle.held.specs.Forest.{Forest, leaf, fork, kid, Over, Rows}
 use Rattle.held.proofs.Orders.{asym, eq-higher, level-order}
 use Rattle.held.proofs.Walks.{kid-over}
-use Rattle.region.specs.Layout.{rowUnits, unitsF, unitBytes, rowBytes, marksOf}
+use Rattle.region.specs.Layout.{rowUnits, unitsF, unitBytes, marksOf}
 use Rattle.region.specs.Forms.{Fits, leaf-fits, fork-fits}
 use Rattle.forest.specs.Paths.{seekAt}
 use Rattle.seek.specs.Child.{childOf}

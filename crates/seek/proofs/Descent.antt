@@ -2,27 +2,26 @@
 use mathlib.Core.Path.{_≡_, refl, sym, ap, _∙_}
 use mathlib.Core.List.{List, [], _∷_, _++_, append-assoc, append-nil}
 use mathlib.Core.Logic.{⊎-elim}
-use Prim.Native.Nat.{ℕ, suc, _+_, _-_, _*_, _≤_, _<_, max}
+use Prim.Native.Nat.{ℕ, _+_, _-_, _≤_, _<_, max}
 use native.Mathlib.Numerals.{add-one}
 use native.Mathlib.Omega.{arith}
 use lib.ListN.{length, take, drop, getD, set, length-set}
 use lib.Seq.{take-suc-set, getD-set-same, getD-set-other}
 use Rattle.lent.proofs.Anywhere.{lt-or-ge}
 use Rattle.level.specs.Levels.{split}
-use Rattle.level.specs.Places.{first, levelsAt, endOf}
+use Rattle.level.specs.Places.{levelsAt, endOf}
 use Rattle.level.proofs.Split.{levels-cons, levels-none, end-within, part-first}
 use Rattle.held.specs.Order.{Level, Filter}
-use Rattle.held.specs.Forest.{Forest, Hit, miss, hit, kid}
+use Rattle.held.specs.Forest.{Forest, miss, hit, kid}
 use Rattle.held.specs.Edit.{missing}
-use Rattle.region.specs.Layout.{rowUnits, unitsF}
+use Rattle.region.specs.Layout.{rowUnits}
 use Rattle.forest.specs.Stands.{rawIn, RawStands}
-use Rattle.forest.specs.Paths.{seekAt, onHit, nodesAt, spotAt}
+use Rattle.forest.specs.Paths.{seekAt, nodesAt, spotAt}
 use Rattle.seek.specs.declared.Child.{Child}
 use Rattle.seek.specs.declared.Child.the-variants.{At, Nothing}
-use Rattle.seek.specs.declared.Path.{Path}
 use Rattle.seek.specs.Child.{childOf, Inside}
 use Rattle.seek.specs.PathFound.{PathOf, PathFound}
-use Rattle.seek.proofs.Found.{FoundAt, found-at, MissedAt, missed-at}
+use Rattle.seek.proofs.Found.{FoundAt, found-at, missed-at}
 
 -- a level that begins within a text ends there
 pub end-in : (text : List ℕ) (from : ℕ) {end : ℕ} → from ≤ length text → end ≡ endOf text from → end ≤ length text

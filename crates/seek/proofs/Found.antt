@@ -1,11 +1,11 @@
 -- A child that was found: its row and its children stand where the answer says, and the children are those of the forest. Assumes nothing.
 use mathlib.Core.Path.{_≡_, refl, sym, ap, _∙_}
-use mathlib.Core.Bool.{Bool, true, false, cond, true≢false}
-use mathlib.Core.List.{List, [], _∷_}
-use Prim.Native.Nat.{ℕ, _+_, _-_, _*_, _≤_, _<_}
+use mathlib.Core.Bool.{Bool, true, false, cond}
+use mathlib.Core.List.{List}
+use Prim.Native.Nat.{ℕ, _+_, _-_, _≤_}
 use native.Mathlib.Omega.{arith}
 use Rattle.level.specs.Kinds.{same}
-use Rattle.held.specs.Order.{Level, levelLt}
+use Rattle.held.specs.Order.{Level}
 use Rattle.held.specs.Forest.{Forest, leaf, fork, Hit, miss, hit, kid, Rows}
 use Rattle.held.proofs.Orders.{level-order}
 use Rattle.region.specs.Layout.{rowUnits, unitsF}
@@ -14,7 +14,6 @@ use Rattle.region.proofs.Instances.{wholes}
 use Rattle.forest.specs.Stands.{Stands, rawIn, RawStands}
 use Rattle.forest.specs.Paths.{seekAt, onHit}
 use Rattle.forest.proofs.StandsLaws.{fork-units, stands-read, stands-kids}
-use Rattle.seek.specs.declared.Child.{Child}
 use Rattle.seek.specs.declared.Child.the-variants.{At, Nothing}
 use Rattle.seek.specs.Child.{childOf}
 use Rattle.seek.proofs.Beside.{beside, beside-node, beside-none, Precede, over-back, seek-behind}

@@ -1,10 +1,10 @@
 -- What a node holds stands unit by unit behind its level, and its row ends behind that. Assumes nothing.
-use mathlib.Core.Path.{_≡_, refl, sym, ap, _∙_}
+use mathlib.Core.Path.{_≡_, sym, ap, _∙_}
 use mathlib.Core.List.{List, [], _∷_, _++_, append-assoc}
-use Prim.Native.Nat.{ℕ, zero, suc, _+_, _-_, _*_, _≤_, _<_}
+use Prim.Native.Nat.{ℕ, zero, suc, _+_, _-_, _*_, _<_}
 use native.Mathlib.Omega.{arith}
-use lib.ListN.{length, take, drop, getD, length-append}
-use lib.Seq.{take-at, drop-at, drop-append-add}
+use lib.ListN.{length, getD, length-append}
+use lib.Seq.{take-at, drop-append-add}
 use Rattle.lent.specs.Parts.{part}
 use Rattle.lent.proofs.Parts.{part-part}
 use Rattle.held.specs.Order.{Level}
@@ -12,7 +12,7 @@ use Rattle.held.specs.Bytes.{each}
 use Rattle.held.specs.Forest.{Forest, fork}
 use Rattle.region.specs.Layout.{levelUnits, rowUnits, unitsF, headBytes, levelBytes, rowBytes, unitBytes}
 use Rattle.region.specs.Forms.{Form}
-use Rattle.region.proofs.Decoded.{length-head, length-level, length-each, length-row}
+use Rattle.region.proofs.Decoded.{length-head, length-level, length-row}
 use Rattle.forest.specs.Places.{unitAt}
 use Rattle.forest.specs.Stands.{Stands}
 use Rattle.forest.proofs.StandsLaws.{fork-units}

@@ -2,6 +2,8 @@ pub mod Beside
 pub mod Marks
 pub mod Parted
 pub mod StepLaws
+pub mod Compared
+pub mod Turns
 pub mod Halving
 pub mod Found
 pub mod Descent

@@ -1,15 +1,15 @@
 -- A row that stands in a region stands there in its parts. Assumes nothing.
-use mathlib.Core.Path.{_≡_, refl, sym, ap, _∙_}
-use mathlib.Core.List.{List, [], _∷_, _++_}
+use mathlib.Core.Path.{_≡_, sym, ap, _∙_}
+use mathlib.Core.List.{List, _++_}
 use Prim.Native.Nat.{ℕ, _+_, _-_, _*_, _≤_, _<_, min}
 use native.Mathlib.Nat.{add-zero}
 use native.Mathlib.Omega.{arith}
 use lib.ListN.{length, take, drop, getD}
 use lib.Seq.{take-at, drop-at, getD-take, getD-drop}
 use Rattle.lent.specs.Parts.{part}
-use Rattle.lent.proofs.Parts.{part-eq, part-part, take-part, drop-part}
+use Rattle.lent.proofs.Parts.{take-part, drop-part}
 use Rattle.held.specs.Forest.{Forest, leaf, fork}
-use Rattle.region.specs.Layout.{rowUnits, unitsF, unitBytes, marksOf}
+use Rattle.region.specs.Layout.{unitsF, unitBytes, marksOf}
 use Rattle.region.specs.Forms.{Form}
 use Rattle.region.proofs.Decoded.{length-units}
 use Rattle.forest.specs.Places.{unitAt}

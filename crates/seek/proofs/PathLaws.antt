@@ -1,6 +1,6 @@
 -- What a caller of `find_path` uses: its nodes lie within the units, and stand there; whether all levels are there; and where they
 -- are, the last node and what it holds. Assumes nothing.
-use mathlib.Core.Path.{_≡_, refl, sym, ap, _∙_}
+use mathlib.Core.Path.{_≡_, sym, ap, _∙_}
 use mathlib.Core.List.{List, [], _∷_}
 use Prim.Native.Nat.{ℕ, zero, suc, _+_, _-_, _≤_, _<_}
 use native.Mathlib.Omega.{arith}
@@ -9,7 +9,6 @@ use lib.Seq.{getD-take, take-all}
 use Rattle.level.specs.Levels.{split}
 use Rattle.level.specs.Places.{first, levelsAt, endOf}
 use Rattle.level.proofs.Split.{split-cons, after, levels-cons, levels-none}
-use Rattle.held.specs.Order.{Level, Filter}
 use Rattle.held.specs.Ascending.{All}
 use Rattle.held.specs.Forest.{hit, valuesAt}
 use Rattle.held.specs.Edit.{missing}
@@ -17,7 +16,7 @@ use Rattle.region.specs.Layout.{rowUnits}
 use Rattle.forest.specs.Stands.{rawIn, RawStands}
 use Rattle.forest.specs.Paths.{nodesAt, spotAt}
 use Rattle.seek.specs.declared.Path.{Path}
-use Rattle.seek.specs.PathFound.{PathOf, PathFound}
+use Rattle.seek.specs.PathFound.{PathFound}
 use Rattle.seek.proofs.PathNodes.{values-missing, nodes-count, spot-last, NodeOf, node-of}
 
 all-take : (P : ℕ → Type 0) (l : List ℕ) (k : ℕ) → k ≤ length l → ((j : ℕ) → j < k → P (getD l j 0)) → All P (take k l)

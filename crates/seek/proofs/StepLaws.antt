@@ -1,12 +1,10 @@
 -- The loop that steps back over marks: what each turn has passed. Assumes nothing.
-use mathlib.Core.Path.{_≡_, refl, sym, ap, _∙_}
+use mathlib.Core.Path.{_≡_}
 use mathlib.Core.List.{List}
 use mathlib.Core.Logic.{⊎-elim}
-use Prim.Native.Nat.{ℕ, _+_, _-_, _≤_, _<_}
+use Prim.Native.Nat.{ℕ, _-_, _≤_, _<_}
 use native.Mathlib.Omega.{arith}
-use lib.ListN.{length}
 use Rattle.lent.proofs.Anywhere.{lt-or-ge}
-use Rattle.seek.specs.declared.Probe.{Probe}
 use Rattle.seek.specs.Probe.{markAt, Probed}
 
 -- from the unit mid back to the unit m all is deeper

@@ -1,7 +1,6 @@
 -- `seek::children::find_child` meets its contract. Assumes nothing.
 use borrow.Author.Needs.{needs}
 use Prim.Native.Nat.{_≤_, _-_, max}
-use native.Mathlib.Omega.{arith}
 use Rattle.seek.proofs.Halving.{Narrowed, narrow-all, narrow-less, narrow-greater, narrow-equal, narrow-none}
 use Rattle.seek.proofs.children.find_child.Statement.{statement}
 use Rattle.seek.proofs.children.find_child.Tie as tie
