@@ -8,3 +8,6 @@ pub mod MakeLaws
 pub mod ViewLaws
 pub mod ChainLaws
 pub mod HeaderLaws
+pub mod HoldsLaws
+pub mod PlaceLaws
+pub mod EditLaws

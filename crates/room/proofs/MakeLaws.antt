@@ -1,4 +1,4 @@
--- The steps of making room: no step changes the length, and together they are what was promised. Assumes nothing.
+-- The steps of each change, together: what was promised. Assumes nothing.
 use mathlib.Core.Path.{_≡_, refl, sym, ap, _∙_}
 use mathlib.Core.List.{List, [], _∷_}
 use Prim.Native.Nat.{ℕ, _+_, _-_, _*_, _≤_, _<_}
@@ -7,23 +7,18 @@ use lib.ListN.{length, replicate}
 use Rattle.lent.specs.Parts.{part, patch}
 use Rattle.lent.specs.Total.{write, opened, closed}
 use Rattle.lent.proofs.Parts.{length-part, length-patch}
-use Rattle.lent.proofs.Anywhere.{write-framed, open-in, close-in}
+use Rattle.lent.proofs.Anywhere.{write-in, open-in}
 use Rattle.forest.specs.Places.{unitAt}
 use Rattle.held.specs.Order.{Filter}
 use Rattle.room.specs.declared.Load.{Load}
-use Rattle.room.specs.Runs.{runUnits, runBytes, runMarks}
-use Rattle.room.specs.Changes.{counted, belows, countsMoved, noLoad, oneLoad, madeRun, madeChain, madeUnit, takenRun, takenChain, takenUnit}
-use Rattle.room.proofs.RunLaws.{length-run, length-run-marks}
+use Rattle.room.specs.Runs.{runBytes, runMarks}
+use Rattle.room.specs.Changes.{counted, belows, countsMoved, noLoad, oneLoad, madeRun, madeChain, putUnit, madeUnit, takenRun, takenChain, cutUnit, takenUnit}
+use Rattle.room.proofs.BelowLaws.{length-counted, length-belows}
 
 pub length-opened : (at end by : ℕ) (s : List ℕ) → at ≤ end → end + by ≤ length s → length (opened at end by s) ≡ length s
 length-opened at end by s h k =
     let l : length (part at (end - at) s) ≡ end - at = length-part at (end - at) s (omega arith) in
     ap length (open-in at end by s k) ∙ length-patch (at + by) (part at (end - at) s) s (omega (arith, l))
-
-pub length-closed : (at end by : ℕ) (s : List ℕ) → at ≤ end → end + by ≤ length s → length (closed at end by s) ≡ length s
-length-closed at end by s h k =
-    let l : length (part (at + by) (end - at) s) ≡ end - at = length-part (at + by) (end - at) s (omega arith) in
-    ap length (close-in at end by s k) ∙ length-patch at (part (at + by) (end - at) s) s (omega (arith, l))
 
 pub run-made : (base n place d c : ℕ) (nodes x : List ℕ) (gs : Filter) (s s₁ s₂ s₃ s₄ s₅ : List ℕ)
     → s₁ ≡ belows c 0 base nodes s → s₂ ≡ opened (base + place * 16) (base + n * 16) (c * 16) s₁
@@ -37,11 +32,18 @@ pub chain-made : (base n place d : ℕ) (nodes x : List ℕ) (gs : Filter) (load
 unfolding madeChain
 chain-made base n place d nodes x gs load s t u a b = rw a at b
 
-pub unit-made : (base n node at : ℕ) (nodes x s s₁ s₂ s₃ s₄ s₅ s₆ s₇ : List ℕ)
+pub unit-made : (base n node at : ℕ) (nodes x s s₁ s₂ s₃ s₄ s₅ s₆ s₇ : List ℕ) → at ≤ n → unitAt base (n + 1) ≤ length s → 64 + (n + 1) ≤ length s → length x ≡ 16
     → s₁ ≡ belows 1 0 base nodes s → s₂ ≡ counted (base + node * 16 + 2) 1 0 s₁ → s₃ ≡ opened (base + at * 16) (base + n * 16) 16 s₂ → s₄ ≡ write (base + at * 16) x s₃
     → s₅ ≡ opened (64 + at) (64 + n) 1 s₄ → s₆ ≡ write (64 + at) (replicate 1 255) s₅ → s₇ ≡ countsMoved oneLoad noLoad s₆ → s₇ ≡ madeUnit base n nodes node at x s
-unfolding madeUnit
-unit-made base n node at nodes x s s₁ s₂ s₃ s₄ s₅ s₆ s₇ a b c d e f g = rw (f, e, d, c, b, a) at g
+unfolding madeUnit putUnit
+unit-made base n node at nodes x s s₁ s₂ s₃ s₄ s₅ s₆ s₇ p q m l a b c d e f g =
+    let l₂ : length s₂ ≡ length s = ap length b ∙ length-counted (base + node * 16 + 2) 1 0 s₁ ∙ ap length a ∙ length-belows 1 0 base nodes s in
+    let l₃ : length s₃ ≡ length s = ap length c ∙ length-opened (base + at * 16) (base + n * 16) 16 s₂ (omega arith) (omega (arith, l₂)) ∙ l₂ in
+    let d′ : s₄ ≡ patch (base + at * 16) x s₃ = d ∙ write-in (base + at * 16) x s₃ (omega (arith, l₃, l)) in
+    let l₄ : length s₄ ≡ length s = ap length d′ ∙ length-patch (base + at * 16) x s₃ (omega (arith, l₃, l)) ∙ l₃ in
+    let l₅ : length s₅ ≡ length s = ap length e ∙ length-opened (64 + at) (64 + n) 1 s₄ (omega arith) (omega (arith, l₄)) ∙ l₄ in
+    let f′ : s₆ ≡ patch (64 + at) (255 ∷ []) s₅ = f ∙ write-in (64 + at) (255 ∷ []) s₅ (omega (arith, l₅)) in
+    rw (f′, e, d′, c, b, a) at g
 
 pub run-taken : (base n at c : ℕ) (nodes s s₁ s₂ s₃ : List ℕ) → s₁ ≡ belows 0 c base nodes s → s₂ ≡ closed (base + at * 16) (base + (n - c) * 16) (c * 16) s₁
     → s₃ ≡ closed (64 + at) (64 + (n - c)) c s₂ → s₃ ≡ takenRun base n nodes at c s
@@ -54,5 +56,5 @@ chain-taken base n at nodes load s t u a b = rw a at b
 
 pub unit-taken : (base n node at : ℕ) (nodes s s₁ s₂ s₃ : List ℕ) → s₁ ≡ counted (base + node * 16 + 2) 0 1 s → s₂ ≡ takenRun base n nodes at 1 s₁ → s₃ ≡ countsMoved noLoad oneLoad s₂
     → s₃ ≡ takenUnit base n nodes node at s
-unfolding takenUnit
+unfolding takenUnit cutUnit
 unit-taken base n node at nodes s s₁ s₂ s₃ a b c = rw (b, a) at c

@@ -1,6 +1,6 @@
 -- Every path leads somewhere; there the code finds it, and there a change is made. Assumes nothing.
 use mathlib.Core.Path.{_≡_, refl, sym, ap, _∙_}
-use mathlib.Core.Bool.{true, false}
+use mathlib.Core.Bool.{true, false, true≢false}
 use mathlib.Core.List.{List, [], _∷_, _++_}
 use Prim.Native.Nat.{ℕ, suc, _+_}
 use native.Mathlib.Omega.{arith}
@@ -9,9 +9,9 @@ use lib.ListN.{length}
 use Rattle.level.specs.Kinds.{same}
 use Rattle.held.specs.Order.{Level, Filter, levelLt}
 use Rattle.held.specs.Forest.{Forest, leaf, fork, miss, hit, kid, Over, Rows}
-use Rattle.held.specs.Edit.{editOwn, chain, growF, missing}
+use Rattle.held.specs.Edit.{editOwn, chain, growF, pruned, cutF, missing}
 use Rattle.held.proofs.Orders.{Tri, lower, alike, higher, tri, asym, eq-higher, level-order}
-use Rattle.held.proofs.Equations.{kid-here, kid-next, kid-past, grow-before, grow-after, grow-here}
+use Rattle.held.proofs.Equations.{kid-here, kid-next, kid-past, grow-before, grow-after, grow-here, cut-here, cut-next}
 use Rattle.region.specs.Layout.{rowUnits, unitsF}
 use Rattle.forest.specs.Paths.{seekAt, nodesAt, spotAt}
 use Rattle.room.specs.Ways.{past, down, Way, plug, ahead, downs}
@@ -19,6 +19,9 @@ use Rattle.room.specs.Reach.{Reach, ended, before, there, pass, into, gr
 
 no-cons : (g : Level) (gs : Filter) → _≡_ {A = Filter} [] (g ∷ gs) → ⊥
 no-cons g gs e = let z : 0 ≡ suc (length gs) = ap length e in omega (arith, z)
+
+no-fork : {X : Type 0} (t : Level) (v : List X) (k n : Forest X) → _≡_ {A = Forest X} (fork t v k n) leaf → ⊥
+no-fork t v k n e = let z : true ≡ false = cc in true≢false z
 
 seek-none : (X : Type 0) (g : Level) (at : ℕ) → seekAt {X = X} g at leaf ≡ at
 unfolding seekAt
@@ -114,3 +117,33 @@ module _ {X : Type 0} where
   reach-spot at o (into {g = g} {v = v} {k = k} {n = n} {w = w} r) h hs e =
       let z : at + (rowUnits g v + ahead w) ≡ at + rowUnits g v + ahead w = omega arith in
       rw (kid-here g g v k n (level-order .eq-refl g), seek-stop g g at v k n (level-order .irrefl g), z) (reach-spot (at + rowUnits g v) (o .1) r h hs e)
+
+-- the cut at a path that is there, where its last node stays
+module _ {X : Type 0} (u : List X → List X) where
+  pruned-fork : (t : Level) (v : List X) (k n : Forest X) → (v ≡ [] → k ≡ leaf → ⊥) → pruned t v k n ≡ fork t v k n
+  unfolding pruned
+  pruned-fork t [] leaf n h = absurd (h refl refl)
+  pruned-fork t [] (fork a b c d) n h = refl
+  pruned-fork t (x ∷ v) k n h = refl
+
+  cut-none : (F : Forest X) → cutF u [] F ≡ F
+  unfolding cutF
+  cut-none leaf = refl
+  cut-none (fork t v k n) = refl
+
+  pub some-plug : (w : Way X) (t : Level) (v : List X) (k n : Forest X) → plug w (fork t v k n) ≡ leaf → ⊥
+  unfolding plug
+  some-plug [] t v k n e = no-fork t v k n e
+  some-plug (past a b c ∷ w) t v k n e = no-fork a b c (plug w (fork t v k n)) e
+  some-plug (down a b c ∷ w) t v k n e = no-fork a b (plug w (fork t v k n)) c e
+
+  pub reach-cut : {p : Filter} {F : Forest X} {w : Way X} {t : Level} {v : List X} {k n : Forest X} → Reach p F w (fork t v k n) [] → (u v ≡ [] → k ≡ leaf → ⊥)
+      → cutF u p F ≡ plug w (fork t (u v) k n)
+  unfolding plug
+  reach-cut (there {g = g} {v = v} {k = k} {n = n}) h =
+      cut-here g g v k n u [] (level-order .eq-refl g) ∙ rw (cut-none k) (pruned-fork g (u v) k n h)
+  reach-cut (pass {g = g} {t = t} {gs = gs} {v = v} {k = k} {n = n} q r) h =
+      cut-next g t v k n u gs (eq-higher level-order g t q) ∙ ap (fork t v k) (reach-cut r h)
+  reach-cut {t = t} {v = o} {k = j} {n = m} (into {g = g} {h = l} {hs = hs} {v = v} {k = k} {n = n} {w = w} r) h =
+      cut-here g g v k n u (l ∷ hs) (level-order .eq-refl g)
+      ∙ rw (reach-cut r h) (pruned-fork g v (plug w (fork t (u o) j m)) n (λ (a : v ≡ []) (b : plug w (fork t (u o) j m) ≡ leaf). some-plug w t (u o) j m b))

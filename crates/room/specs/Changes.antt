@@ -58,14 +58,15 @@ madeRun base n nodes place d x gs c s =
 unfoldable pub madeChain : (base n : ℕ) (nodes : List ℕ) (place d : ℕ) (x : List ℕ) (gs : Filter) (load : Load) → List ℕ → List ℕ
 madeChain base n nodes place d x gs load s = countsMoved load noLoad (madeRun base n nodes place d x gs (load .units) s)
 
--- the unit x before unit `at`, for a node below some nodes
-unfoldable pub madeUnit : (base n : ℕ) (nodes : List ℕ) (node at : ℕ) (x : List ℕ) → List ℕ → List ℕ
-madeUnit base n nodes node at x s =
-    countsMoved oneLoad noLoad
-    (write (64 + at) (255 ∷ [])
+-- the unit x before unit `at`, for a node below some nodes; and the counts
+unfoldable pub putUnit : (base n : ℕ) (nodes : List ℕ) (node at : ℕ) (x : List ℕ) → List ℕ → List ℕ
+putUnit base n nodes node at x s =
+    patch (64 + at) (255 ∷ [])
     (opened (64 + at) (64 + n) 1
-    (write (unitAt base at) x
-    (opened (unitAt base at) (unitAt base n) 16 (counted (unitAt base node + 2) 1 0 (belows 1 0 base nodes s))))))
+    (patch (unitAt base at) x (opened (unitAt base at) (unitAt base n) 16 (counted (unitAt base node + 2) 1 0 (belows 1 0 base nodes s)))))
+
+unfoldable pub madeUnit : (base n : ℕ) (nodes : List ℕ) (node at : ℕ) (x : List ℕ) → List ℕ → List ℕ
+madeUnit base n nodes node at x s = countsMoved oneLoad noLoad (putUnit base n nodes node at x s)
 
 -- c units and their marks taken away from unit `at` on, below some nodes; and the counts
 unfoldable pub takenRun : (base n : ℕ) (nodes : List ℕ) (at c : ℕ) → List ℕ → List ℕ
@@ -75,6 +76,9 @@ takenRun base n nodes at c s =
 unfoldable pub takenChain : (base n : ℕ) (nodes : List ℕ) (at : ℕ) (load : Load) → List ℕ → List ℕ
 takenChain base n nodes at load s = countsMoved noLoad load (takenRun base n nodes at (load .units) s)
 
--- unit `at` of a node taken away
+-- unit `at` of a node taken away; and the counts
+unfoldable pub cutUnit : (base n : ℕ) (nodes : List ℕ) (node at : ℕ) → List ℕ → List ℕ
+cutUnit base n nodes node at s = takenRun base n nodes at 1 (counted (unitAt base node + 2) 0 1 s)
+
 unfoldable pub takenUnit : (base n : ℕ) (nodes : List ℕ) (node at : ℕ) → List ℕ → List ℕ
-takenUnit base n nodes node at s = countsMoved noLoad oneLoad (takenRun base n nodes at 1 (counted (unitAt base node + 2) 0 1 s))
+takenUnit base n nodes node at s = countsMoved noLoad oneLoad (cutUnit base n nodes node at s)

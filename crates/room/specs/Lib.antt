@@ -3,3 +3,4 @@ pub mod Reach
 pub mod Runs
 pub mod Changes
 pub mod View
+pub mod Holds
