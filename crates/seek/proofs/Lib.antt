@@ -10,3 +10,4 @@ pub mod Descent
 pub mod PathNodes
 pub mod PathLaws
 pub mod Holds
+pub mod Raw
