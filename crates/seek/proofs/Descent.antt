@@ -21,7 +21,7 @@ use Rattle.seek.specs.declared.Child.{Child}
 use Rattle.seek.specs.declared.Child.the-variants.{At, Nothing}
 use Rattle.seek.specs.Child.{childOf, Inside}
 use Rattle.seek.specs.PathFound.{PathOf, PathFound}
-use Rattle.seek.proofs.Found.{FoundAt, found-at, missed-at}
+use Rattle.seek.proofs.Found.{FoundAt, found-at, missed-in}
 
 -- a level that begins within a text ends there
 pub end-in : (text : List ℕ) (from : ℕ) {end : ℕ} → from ≤ length text → end ≡ endOf text from → end ≤ length text
@@ -157,7 +157,7 @@ module _ (base : ℕ) (s : List ℕ) (n : ℕ) (text nodes : List ℕ) (depth lo
           nodes-in = k .nodes-in;
           stands = λ w h.
               let f = k .down w in
-              let m = missed-at base s g (depth + 1) lo hi (f .stands) i (sym q ∙ answer (f .stands)) in
+              let m = missed-in g lo (rawIn base s lo hi) i (sym q ∙ answer (f .stands)) in
               let F = rawIn base s lo hi in
               record {
                 nodes-are = sym (f .nodes-are ∙ rw (levels, nodes-miss g (levelsAt text next) lo F (m .missed)) (append-nil (take depth nodes)));

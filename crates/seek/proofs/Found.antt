@@ -9,11 +9,12 @@ use Rattle.held.specs.Order.{Level}
 use Rattle.held.specs.Forest.{Forest, leaf, fork, Hit, miss, hit, kid, Rows}
 use Rattle.held.proofs.Orders.{level-order}
 use Rattle.region.specs.Layout.{rowUnits, unitsF}
-use Rattle.region.specs.Forms.{whole, Whole}
+use Rattle.region.specs.Forms.{Form, whole, Whole}
 use Rattle.region.proofs.Instances.{wholes}
 use Rattle.forest.specs.Stands.{Stands, rawIn, RawStands}
 use Rattle.forest.specs.Paths.{seekAt, onHit}
 use Rattle.forest.proofs.StandsLaws.{fork-units, stands-read, stands-kids}
+use Rattle.seek.specs.declared.Child.{Child}
 use Rattle.seek.specs.declared.Child.the-variants.{At, Nothing}
 use Rattle.seek.specs.Child.{childOf}
 use Rattle.seek.proofs.Beside.{beside, beside-node, beside-none, Precede, over-back, seek-behind}
@@ -59,7 +60,77 @@ seek-first : {X : Type 0} (g : Level) (at : ℕ) (v : List X) (k n : Forest X) �
 unfolding seekAt
 seek-first g at v k n = rw (level-order .irrefl g)
 
--- a found child: what it holds, that it is the forest's, and that it stands with its children from the unit i up to the unit p
+-- a child that was found in a forest that stands: what it holds and its children are the forest's, and it stands from the unit i
+-- up to the unit p, its children from the unit e on
+pub record FoundIn {X : Type 0} (u : Form X) (base : ℕ) (s : List ℕ) (g : Level) (d lo hi : ℕ) (F : Forest X) (i e p : ℕ) : Type 0 where
+  pub own : List X
+  pub kids : Forest X
+  pub found : kid g F ≡ hit own kids
+  pub place : seekAt g lo F ≡ i
+  pub end : e ≡ i + rowUnits g own
+  pub past : p ≡ e + unitsF kids
+  pub within : p ≤ hi
+  pub node : Stands (u .write) (u .Small) base s d i p (fork g own kids leaf)
+  pub below : Stands (u .write) (u .Small) base s (d + 1) e p kids
+
+-- a child that is not there, and where it would go
+pub record MissedIn {X : Type 0} (g : Level) (lo : ℕ) (F : Forest X) (i : ℕ) : Type 0 where
+  pub missed : kid g F ≡ miss
+  pub place : seekAt g lo F ≡ i
+
+abbrev ByHit : {X : Type 0} → Level → ℕ → Forest X → Hit X → Child
+ByHit g lo F h = onHit h (Nothing (seekAt g lo F)) (λ v k. At (seekAt g lo F) (seekAt g lo F + rowUnits g v) (seekAt g lo F + rowUnits g v + unitsF k))
+
+module _ {X : Type 0} (u : Form X) (base : ℕ) (s : List ℕ) (g : Level) (d lo hi : ℕ) (F : Forest X) (w : Stands (u .write) (u .Small) base s d lo hi F) where
+  module _ (own : List X) (k : Forest X) (e : kid g F ≡ hit own k) where
+    c : KidAt g own k F
+    c = kid-at g own k F (w .rows) e
+
+    place-is : seekAt g lo F ≡ lo + unitsF (c .before)
+    place-is = ap (seekAt g lo) (c .is) ∙ seek-behind g lo (c .before) (fork g own k (c .next)) (c .precedes) ∙ seek-first g (lo + unitsF (c .before)) own k (c .next)
+
+    back : Stands (u .write) (u .Small) base s d (seekAt g lo F) hi (fork g own k (c .next))
+    back = stands-back u base s d lo hi (c .before) (fork g own k (c .next)) (rw (c .is) at w) (seekAt g lo F) place-is
+
+    alone : Stands (u .write) (u .Small) base s d (seekAt g lo F) (seekAt g lo F + rowUnits g own + unitsF k) (fork g own k leaf)
+    unfolding beside unitsF
+    alone = stands-front u base s d (seekAt g lo F) hi (fork g own k leaf) (c .next) back (seekAt g lo F + rowUnits g own + unitsF k) (omega arith)
+
+    pub found-kid : FoundIn u base s g d lo hi F (seekAt g lo F) (seekAt g lo F + rowUnits g own) (seekAt g lo F + rowUnits g own + unitsF k)
+    found-kid =
+        record {
+          own = own;
+          kids = k;
+          found = e;
+          place = refl;
+          end = refl;
+          past = refl;
+          within = omega (arith, back .size, fork-units g own k (c .next));
+          node = alone;
+          below = stands-kids u base s d (seekAt g lo F) hi g own k (c .next) back;
+        }
+
+  pub found-in : (i e p : ℕ) → At i e p ≡ childOf g lo F → FoundIn u base s g d lo hi F i e p
+  unfolding childOf
+  found-in i e p q = go (kid g F) refl q
+    where
+      go : (h : Hit X) → kid g F ≡ h → At i e p ≡ ByHit g lo F h → FoundIn u base s g d lo hi F i e p
+      go miss h z = let y : _≡_ {A = ℕ} 0 1 = cc in absurd (omega arith)
+      go (hit v k) h z =
+          let a : i ≡ seekAt g lo F = cc in
+          let b : e ≡ seekAt g lo F + rowUnits g v = cc in
+          let c : p ≡ seekAt g lo F + rowUnits g v + unitsF k = cc in
+          rw (a, b, c) (found-kid v k h)
+
+pub missed-in : {X : Type 0} (g : Level) (lo : ℕ) (F : Forest X) (i : ℕ) → Nothing i ≡ childOf g lo F → MissedIn g lo F i
+unfolding childOf
+missed-in {X} g lo F i q = go (kid g F) refl q
+  where
+    go : (h : Hit X) → kid g F ≡ h → Nothing i ≡ ByHit g lo F h → MissedIn g lo F i
+    go miss h z = record { missed = h; place = let y : i ≡ seekAt g lo F = cc in sym y }
+    go (hit v k) h z = let y : _≡_ {A = ℕ} 0 1 = cc in absurd (omega arith)
+
+-- in the raw forest: its children are the raw forest there
 pub record FoundAt (base : ℕ) (s : List ℕ) (g : Level) (d lo hi i e p : ℕ) : Type 0 where
   pub own : List (List ℕ)
   pub found : kid g (rawIn base s lo hi) ≡ hit own (rawIn base s e p)
@@ -69,73 +140,8 @@ pub record FoundAt (base : ℕ) (s : List ℕ) (g : Level) (d lo hi i e p : ℕ)
   pub node : Stands whole Whole base s d i p (fork g own (rawIn base s e p) leaf)
   pub kids : RawStands base s (d + 1) e p
 
--- a child that is not there, and where it would go
-pub record MissedAt (base : ℕ) (s : List ℕ) (g : Level) (lo hi i : ℕ) : Type 0 where
-  pub missed : kid g (rawIn base s lo hi) ≡ miss
-  pub place : seekAt g lo (rawIn base s lo hi) ≡ i
-
-module _ (base : ℕ) (s : List ℕ) (g : Level) (d lo hi : ℕ) (w : RawStands base s d lo hi) where
-  module _ (own : List (List ℕ)) (k : Forest (List ℕ)) (e : kid g (rawIn base s lo hi) ≡ hit own k) where
-    c : KidAt g own k (rawIn base s lo hi)
-    c = kid-at g own k (rawIn base s lo hi) (w .rows) e
-
-    -- where it stands
-    at : ℕ
-    at = lo + unitsF (c .before)
-
-    place-is : seekAt g lo (rawIn base s lo hi) ≡ at
-    unfolding at
-    place-is = ap (seekAt g lo) (c .is) ∙ seek-behind g lo (c .before) (fork g own k (c .next)) (c .precedes) ∙ seek-first g (lo + unitsF (c .before)) own k (c .next)
-
-    back : Stands whole Whole base s d at hi (fork g own k (c .next))
-    unfolding at
-    back = stands-back wholes base s d lo hi (c .before) (fork g own k (c .next)) (rw (c .is) at w) (lo + unitsF (c .before)) refl
-
-    node-alone : Stands whole Whole base s d at (at + rowUnits g own + unitsF k) (fork g own k leaf)
-    unfolding beside unitsF
-    node-alone = stands-front wholes base s d at hi (fork g own k leaf) (c .next) back (at + rowUnits g own + unitsF k) (omega arith)
-
-    kids-there : Stands whole Whole base s (d + 1) (at + rowUnits g own) (at + rowUnits g own + unitsF k) k
-    kids-there = stands-kids wholes base s d at hi g own k (c .next) back
-
-    kids-read : rawIn base s (at + rowUnits g own) (at + rowUnits g own + unitsF k) ≡ k
-    kids-read = stands-read wholes base s (d + 1) (at + rowUnits g own) (at + rowUnits g own + unitsF k) k kids-there
-
-    found-hit : FoundAt base s g d lo hi at (at + rowUnits g own) (at + rowUnits g own + unitsF k)
-    found-hit =
-        record {
-          own = own;
-          found = rw kids-read e;
-          place = place-is;
-          end = refl;
-          within = omega (arith, back .size, fork-units g own k (c .next));
-          node = rw kids-read node-alone;
-          kids = rw kids-read kids-there;
-        }
-
-    pub found-kid : FoundAt base s g d lo hi (seekAt g lo (rawIn base s lo hi)) (seekAt g lo (rawIn base s lo hi) + rowUnits g own) (seekAt g lo (rawIn base s lo hi) + rowUnits g own + unitsF k)
-    found-kid = rw place-is found-hit
-
-  pub found-at : (i e p : ℕ) → At i e p ≡ childOf g lo (rawIn base s lo hi) → FoundAt base s g d lo hi i e p
-  unfolding childOf
-  found-at i e p q = go (kid g (rawIn base s lo hi)) refl q
-    where
-      go : (h : Hit (List ℕ)) → kid g (rawIn base s lo hi) ≡ h
-          → At i e p ≡ onHit h (Nothing (seekAt g lo (rawIn base s lo hi))) (λ v k. At (seekAt g lo (rawIn base s lo hi)) (seekAt g lo (rawIn base s lo hi) + rowUnits g v) (seekAt g lo (rawIn base s lo hi) + rowUnits g v + unitsF k))
-          → FoundAt base s g d lo hi i e p
-      go miss h z = let y : _≡_ {A = ℕ} 0 1 = cc in absurd (omega arith)
-      go (hit v k) h z =
-          let a : i ≡ seekAt g lo (rawIn base s lo hi) = cc in
-          let b : e ≡ seekAt g lo (rawIn base s lo hi) + rowUnits g v = cc in
-          let c : p ≡ seekAt g lo (rawIn base s lo hi) + rowUnits g v + unitsF k = cc in
-          rw (a, b, c) (found-kid v k h)
-
-  pub missed-at : (i : ℕ) → Nothing i ≡ childOf g lo (rawIn base s lo hi) → MissedAt base s g lo hi i
-  unfolding childOf
-  missed-at i q = go (kid g (rawIn base s lo hi)) refl q
-    where
-      go : (h : Hit (List ℕ)) → kid g (rawIn base s lo hi) ≡ h
-          → Nothing i ≡ onHit h (Nothing (seekAt g lo (rawIn base s lo hi))) (λ v k. At (seekAt g lo (rawIn base s lo hi)) (seekAt g lo (rawIn base s lo hi) + rowUnits g v) (seekAt g lo (rawIn base s lo hi) + rowUnits g v + unitsF k))
-          → MissedAt base s g lo hi i
-      go miss h z = record { missed = h; place = let y : i ≡ seekAt g lo (rawIn base s lo hi) = cc in sym y }
-      go (hit v k) h z = let y : _≡_ {A = ℕ} 0 1 = cc in absurd (omega arith)
+pub found-at : (base : ℕ) (s : List ℕ) (g : Level) (d lo hi : ℕ) → RawStands base s d lo hi → (i e p : ℕ) → At i e p ≡ childOf g lo (rawIn base s lo hi) → FoundAt base s g d lo hi i e p
+found-at base s g d lo hi w i e p q =
+    let f = found-in wholes base s g d lo hi (rawIn base s lo hi) w i e p q in
+    let z : rawIn base s e p ≡ f .kids = stands-read wholes base s (d + 1) e p (f .kids) (f .below) in
+    record { own = f .own; found = rw z (f .found); place = f .place; end = f .end; within = f .within; node = rw z (f .node); kids = rw z (f .below) }

@@ -10,10 +10,10 @@ use Rattle.held.specs.Forest.{Forest, leaf, fork, Hit, miss, hit, kid, valuesAt
 use Rattle.held.specs.Edit.{missing}
 use Rattle.held.proofs.Walks.{at-miss}
 use Rattle.region.specs.Layout.{rowUnits, unitsF}
-use Rattle.region.specs.Forms.{whole, Whole}
-use Rattle.forest.specs.Stands.{Stands, rawIn, RawStands}
+use Rattle.region.specs.Forms.{Form}
+use Rattle.forest.specs.Stands.{Stands}
 use Rattle.forest.specs.Paths.{seekAt, nodesAt, spotAt}
-use Rattle.seek.proofs.Found.{FoundAt, found-kid}
+use Rattle.seek.proofs.Found.{FoundIn, found-kid}
 use Rattle.seek.proofs.Descent.{nodes-hit, nodes-miss, nodes-end, spot-hit, spot-end, missing-hit, missing-miss, missing-end}
 
 module _ {X : Type 0} where
@@ -75,74 +75,67 @@ module _ {X : Type 0} where
       go miss q f = absurd (omega (arith, ap length (sym (missing-miss g (h ∷ hs) at F q) ∙ m)))
       go (hit v k) q f = spot-more g h hs at F v k q (f (seekAt g at F + rowUnits g v) k (sym (missing-hit g (h ∷ hs) at F v k q) ∙ m))
 
--- the node at unit i that was found j levels down a path from the units lo up to hi at depth d: what it holds, and that it stands
-pub record NodeOf (base : ℕ) (s : List ℕ) (d lo hi : ℕ) (gs : Filter) (j i : ℕ) : Type 0 where
-  pub own : List (List ℕ)
-  pub kids : Forest (List ℕ)
-  pub holds : valuesAt (take (suc j) gs) (hit [] (rawIn base s lo hi)) ≡ own
+-- the node at unit i that was found j levels down a path of F, which stands from the unit lo at depth d: what it holds, and that it stands
+pub record NodeOf {X : Type 0} (u : Form X) (base : ℕ) (s : List ℕ) (d lo hi : ℕ) (F : Forest X) (gs : Filter) (j i : ℕ) : Type 0 where
+  pub own : List X
+  pub kids : Forest X
+  pub holds : valuesAt (take (suc j) gs) (hit [] F) ≡ own
   pub within : i + rowUnits (getD gs j []) own + unitsF kids ≤ hi
-  pub stands : Stands whole Whole base s (d + j) i (i + rowUnits (getD gs j []) own + unitsF kids) (fork (getD gs j []) own kids leaf)
+  pub stands : Stands (u .write) (u .Small) base s (d + j) i (i + rowUnits (getD gs j []) own + unitsF kids) (fork (getD gs j []) own kids leaf)
 
-node-here : (base : ℕ) (s : List ℕ) (g : Level) (gs : Filter) (d lo hi i e p : ℕ) → FoundAt base s g d lo hi i e p → NodeOf base s d lo hi (g ∷ gs) 0 i
-node-here base s g gs d lo hi i e p f =
-    let q : p ≡ i + rowUnits g (f .own) + unitsF (rawIn base s e p) = f .kids .size ∙ rw (f .end) in
-    record {
-      own = f .own;
-      kids = rawIn base s e p;
-      holds = values-hit g [] [] (f .own) (rawIn base s lo hi) (rawIn base s e p) (f .found) ∙ values-end (f .own) (rawIn base s e p);
-      within = omega (arith, f .within, q);
-      stands = rw (add-zero d, ← q) (f .node);
-    }
+module _ {X : Type 0} (u : Form X) (base : ℕ) (s : List ℕ) where
+  -- every node of a path
+  abbrev EachOf : (d lo hi : ℕ) → Forest X → Filter → Type 0
+  EachOf d lo hi F gs = (j : ℕ) → j < length (nodesAt gs lo F) → NodeOf u base s d lo hi F gs j (getD (nodesAt gs lo F) j 0)
 
-node-below : (base : ℕ) (s : List ℕ) (g h : Level) (hs : Filter) (d lo hi i e p : ℕ) → FoundAt base s g d lo hi i e p → (j m : ℕ) → NodeOf base s (d + 1) e p (h ∷ hs) j m → NodeOf base s d lo hi (g ∷ h ∷ hs) (suc j) m
-node-below base s g h hs d lo hi i e p f j m r =
-    let y : d + 1 + j ≡ d + suc j = omega arith in
-    record {
-      own = r .own;
-      kids = r .kids;
-      holds =
-          values-hit g (h ∷ take j hs) [] (f .own) (rawIn base s lo hi) (rawIn base s e p) (f .found)
-          ∙ values-below h (take j hs) (f .own) [] (rawIn base s e p) ∙ r .holds;
-      within = omega (arith, r .within, f .within);
-      stands = rw y at (r .stands);
-    }
+  -- the first level is found
+  module _ (g : Level) (d lo hi : ℕ) (F : Forest X) (i e p : ℕ) (f : FoundIn u base s g d lo hi F i e p) where
+    nodes-found : (gs : Filter) → nodesAt (g ∷ gs) lo F ≡ i ∷ nodesAt gs e (f .kids)
+    nodes-found gs =
+        let z : seekAt g lo F + rowUnits g (f .own) ≡ e = rw (f .place) (sym (f .end)) in
+        nodes-hit g gs lo F (f .own) (f .kids) (f .found) ∙ rw (z, f .place)
 
--- the first node of a path, where it is there
-record FoundFirst (base : ℕ) (s : List ℕ) (g : Level) (d lo hi : ℕ) : Type 0 where
-  pub node : ℕ
-  pub end : ℕ
-  pub past : ℕ
-  pub is : FoundAt base s g d lo hi node end past
+    node-here : (gs : Filter) → NodeOf u base s d lo hi F (g ∷ gs) 0 i
+    node-here gs =
+        let q : p ≡ i + rowUnits g (f .own) + unitsF (f .kids) = f .past ∙ rw (f .end) in
+        record {
+          own = f .own;
+          kids = f .kids;
+          holds = values-hit g [] [] (f .own) F (f .kids) (f .found) ∙ values-end (f .own) (f .kids);
+          within = omega (arith, f .within, q);
+          stands = rw (add-zero d, ← q) (f .node);
+        }
 
-found-first : (base : ℕ) (s : List ℕ) (g : Level) (d lo hi : ℕ) → RawStands base s d lo hi → (kid g (rawIn base s lo hi) ≡ miss → ⊥) → FoundFirst base s g d lo hi
-found-first base s g d lo hi w m = go (kid g (rawIn base s lo hi)) refl
-  where
-    go : (x : Hit (List ℕ)) → kid g (rawIn base s lo hi) ≡ x → FoundFirst base s g d lo hi
-    go miss q = absurd (m q)
-    go (hit v k) q = record { node = _; end = _; past = _; is = found-kid base s g d lo hi w v k q }
+    node-below : (h : Level) (hs : Filter) (j m : ℕ) → NodeOf u base s (d + 1) e p (f .kids) (h ∷ hs) j m → NodeOf u base s d lo hi F (g ∷ h ∷ hs) (suc j) m
+    node-below h hs j m r =
+        let y : d + 1 + j ≡ d + suc j = omega arith in
+        record {
+          own = r .own;
+          kids = r .kids;
+          holds = values-hit g (h ∷ take j hs) [] (f .own) F (f .kids) (f .found) ∙ values-below h (take j hs) (f .own) [] (f .kids) ∙ r .holds;
+          within = omega (arith, r .within, f .within);
+          stands = rw y at (r .stands);
+        }
 
-nodes-found : (base : ℕ) (s : List ℕ) (g : Level) (gs : Filter) (d lo hi i e p : ℕ) → FoundAt base s g d lo hi i e p → nodesAt (g ∷ gs) lo (rawIn base s lo hi) ≡ i ∷ nodesAt gs e (rawIn base s e p)
-nodes-found base s g gs d lo hi i e p f =
-    let z : seekAt g lo (rawIn base s lo hi) + rowUnits g (f .own) ≡ e = rw (f .place) (sym (f .end)) in
-    nodes-hit g gs lo (rawIn base s lo hi) (f .own) (rawIn base s e p) (f .found) ∙ rw (z, f .place)
+    each-on : (gs : Filter) → EachOf (d + 1) e p (f .kids) gs → (j : ℕ) → j < length (i ∷ nodesAt gs e (f .kids)) → NodeOf u base s d lo hi F (g ∷ gs) j (getD (i ∷ nodesAt gs e (f .kids)) j 0)
+    each-on gs r zero h = node-here gs
+    each-on [] r (suc k) h = absurd (omega (arith, ap length (nodes-end e (f .kids))))
+    each-on (x ∷ xs) r (suc k) h = node-below x xs k (getD (nodesAt (x ∷ xs) e (f .kids)) k 0) (r k (omega arith))
 
--- every node of a path from the units lo up to hi
-abbrev EachOf : (base : ℕ) → List ℕ → (d lo hi : ℕ) → Filter → Type 0
-EachOf base s d lo hi gs = (j : ℕ) → j < length (nodesAt gs lo (rawIn base s lo hi)) → NodeOf base s d lo hi gs j (getD (nodesAt gs lo (rawIn base s lo hi)) j 0)
+    each-found : (gs : Filter) → EachOf (d + 1) e p (f .kids) gs → EachOf d lo hi F (g ∷ gs)
+    each-found gs r j h = rw (nodes-found gs) (each-on gs r j (rw (nodes-found gs) at h))
 
-each-on : (base : ℕ) (s : List ℕ) (g : Level) (gs : Filter) (d lo hi i e p : ℕ) → FoundAt base s g d lo hi i e p → EachOf base s (d + 1) e p gs
-    → (j : ℕ) → j < length (i ∷ nodesAt gs e (rawIn base s e p)) → NodeOf base s d lo hi (g ∷ gs) j (getD (i ∷ nodesAt gs e (rawIn base s e p)) j 0)
-each-on base s g gs d lo hi i e p f r zero h = node-here base s g gs d lo hi i e p f
-each-on base s g [] d lo hi i e p f r (suc k) h = absurd (omega (arith, ap length (nodes-end e (rawIn base s e p))))
-each-on base s g (x ∷ xs) d lo hi i e p f r (suc k) h = node-below base s g x xs d lo hi i e p f k (getD (nodesAt (x ∷ xs) e (rawIn base s e p)) k 0) (r k (omega arith))
+  each-from : (g : Level) (gs : Filter) (d lo hi : ℕ) (F : Forest X) → Stands (u .write) (u .Small) base s d lo hi F
+      → ((e p : ℕ) (k : Forest X) → Stands (u .write) (u .Small) base s (d + 1) e p k → EachOf (d + 1) e p k gs) → EachOf d lo hi F (g ∷ gs)
+  each-from g gs d lo hi F w r j h = go (kid g F) refl
+    where
+      go : (x : Hit X) → kid g F ≡ x → NodeOf u base s d lo hi F (g ∷ gs) j (getD (nodesAt (g ∷ gs) lo F) j 0)
+      go miss q = absurd (omega (arith, ap length (nodes-miss g gs lo F q)))
+      go (hit v k) q =
+          let f = found-kid u base s g d lo hi F w v k q in
+          each-found g d lo hi F (seekAt g lo F) (seekAt g lo F + rowUnits g v) (seekAt g lo F + rowUnits g v + unitsF k) f gs
+          (r (seekAt g lo F + rowUnits g v) (seekAt g lo F + rowUnits g v + unitsF k) (f .kids) (f .below)) j h
 
-each-from : (base : ℕ) (s : List ℕ) (g : Level) (gs : Filter) (d lo hi : ℕ) → RawStands base s d lo hi
-    → ((e p : ℕ) → RawStands base s (d + 1) e p → EachOf base s (d + 1) e p gs) → EachOf base s d lo hi (g ∷ gs)
-each-from base s g gs d lo hi w r j h =
-    let f = found-first base s g d lo hi w (λ q. absurd (omega (arith, ap length (nodes-miss g gs lo (rawIn base s lo hi) q)))) in
-    let e = nodes-found base s g gs d lo hi (f .node) (f .end) (f .past) (f .is) in
-    rw e (each-on base s g gs d lo hi (f .node) (f .end) (f .past) (f .is) (r (f .end) (f .past) (f .is .kids)) j (rw e at h))
-
-pub node-of : (base : ℕ) (s : List ℕ) (gs : Filter) (d lo hi : ℕ) → RawStands base s d lo hi → EachOf base s d lo hi gs
-node-of base s [] d lo hi w j h = absurd (omega (arith, ap length (nodes-end lo (rawIn base s lo hi))))
-node-of base s (g ∷ gs) d lo hi w j h = each-from base s g gs d lo hi w (node-of base s gs (d + 1)) j h
+  pub node-of : (gs : Filter) (d lo hi : ℕ) (F : Forest X) → Stands (u .write) (u .Small) base s d lo hi F → EachOf d lo hi F gs
+  node-of [] d lo hi F w j h = absurd (omega (arith, ap length (nodes-end lo F)))
+  node-of (g ∷ gs) d lo hi F w j h = each-from g gs d lo hi F w (node-of gs (d + 1)) j h

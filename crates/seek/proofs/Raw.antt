@@ -2,24 +2,25 @@
 -- missing of it are the same in both. Assumes nothing.
 use mathlib.Core.Path.{_≡_, refl, sym, ap, _∙_}
 use mathlib.Core.Bool.{Bool, true, false, cond}
-use mathlib.Core.List.{List, [], _∷_, _++_, map}
+use mathlib.Core.List.{List, [], _∷_, map}
 use Prim.Native.Nat.{ℕ, _+_, _*_, _<_}
-use native.Mathlib.Nat.{add-zero, zero-add}
+use native.Mathlib.Nat.{zero-add}
 use native.Mathlib.Omega.{arith}
 use lib.ListN.{length, length-map}
 use Rattle.level.specs.Kinds.{same}
-use Rattle.held.specs.Order.{Level, Filter, levelLt}
+use Rattle.held.specs.Order.{Level, Filter}
 use Rattle.held.specs.Ascending.{All}
 use Rattle.held.specs.Bytes.{each}
 use Rattle.held.specs.Forest.{Forest, leaf, fork, Hit, miss, hit, kid, Over, Rows}
 use Rattle.held.specs.Edit.{kidsOr, missing}
-use Rattle.region.specs.Layout.{unitRoom, rowUnits, unitsF, headBytes, levelBytes, rowBytes, unitBytes, marksOf}
+use Rattle.region.specs.Layout.{unitRoom, rowUnits, unitsF, rowBytes, unitBytes, marksOf}
 use Rattle.region.specs.Forms.{Form, Fits, leaf-fits, fork-fits, whole, Whole}
 use Rattle.region.specs.Store.{roomAt, WrittenIn}
 use Rattle.region.proofs.Instances.{wholes, whole-back}
 use Rattle.forest.specs.Stands.{Stands, rawIn, RawStands, mapF}
 use Rattle.forest.specs.Paths.{seekAt, onHit, nodesAt, spotAt}
-use Rattle.forest.proofs.StandsLaws.{fork-units, stands-read}
+use Rattle.forest.proofs.StandsLaws.{stands-read}
+use Rattle.seek.specs.declared.Child.{Child}
 use Rattle.seek.specs.Child.{childOf}
 
 -- a node with a function done to all that it holds and all below it
@@ -137,6 +138,10 @@ module _ {X : Type 0} (u : Form X) where
 
     pub raw-stands : RawStands base s d lo hi
     raw-stands = rw raw-is map-stands
+
+    -- what `find_child` answers
+    pub child-stands : (g : Level) (v : Child) → (RawStands base s d lo hi → v ≡ childOf g lo (rawIn base s lo hi)) → v ≡ childOf g lo F
+    child-stands g v e = e raw-stands ∙ ap (childOf g lo) raw-is ∙ child-map (u .write) g lo F
 
   -- what is written down in a region stands there
   pub written-stands : (kind : ℕ) (s : List ℕ) (F : Forest X) → WrittenIn kind (u .write) F s → Rows F → Fits (u .Small) F
