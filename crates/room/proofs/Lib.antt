@@ -11,3 +11,4 @@ pub mod HeaderLaws
 pub mod HoldsLaws
 pub mod PlaceLaws
 pub mod EditLaws
+pub mod CutLaws

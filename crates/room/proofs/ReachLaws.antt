@@ -120,7 +120,7 @@ module _ {X : Type 0} where
 
 -- the cut at a path that is there, where its last node stays
 module _ {X : Type 0} (u : List X → List X) where
-  pruned-fork : (t : Level) (v : List X) (k n : Forest X) → (v ≡ [] → k ≡ leaf → ⊥) → pruned t v k n ≡ fork t v k n
+  pub pruned-fork : (t : Level) (v : List X) (k n : Forest X) → (v ≡ [] → k ≡ leaf → ⊥) → pruned t v k n ≡ fork t v k n
   unfolding pruned
   pruned-fork t [] leaf n h = absurd (h refl refl)
   pruned-fork t [] (fork a b c d) n h = refl

@@ -4,3 +4,4 @@ pub mod Runs
 pub mod Changes
 pub mod View
 pub mod Holds
+pub mod Cut
