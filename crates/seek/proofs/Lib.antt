@@ -11,3 +11,4 @@ pub mod PathNodes
 pub mod PathLaws
 pub mod Holds
 pub mod Raw
+pub mod Examples
