@@ -3,3 +3,4 @@ pub mod Decoded
 pub mod Instances
 pub mod Stores
 pub mod CountLaws
+pub mod ShapeLaws

@@ -2,7 +2,7 @@
 use mathlib.Core.Path.{_≡_, refl, sym, ap, _∙_}
 use mathlib.Core.Bool.{Bool, true, false, cond, _||_}
 use mathlib.Core.List.{List, [], _∷_, _++_, append-assoc, append-nil}
-use Prim.Native.Nat.{ℕ, suc, _+_, _-_, _*_, _/_, _≤_, _<_}
+use Prim.Native.Nat.{ℕ, suc, _+_, _-_, _*_, _/_, _≤_, _<_, max}
 use native.Mathlib.Omega.{arith}
 use native.Mathlib.Numerals.{add-one}
 use lib.ListN.{length, drop, replicate, length-append, length-replicate}
@@ -22,6 +22,7 @@ use Rattle.region.specs.Layout.{levelUnits, headBytes, levelBytes}
 use Rattle.region.proofs.Decoded.{length-head, length-level}
 use Rattle.forest.specs.Places.{unitAt}
 use Rattle.room.specs.Runs.{runUnits, lastOwn, runBytes, runMarks, WantedFor}
+use Rattle.room.specs.Changes.{SmallLoad}
 use Rattle.room.proofs.Middle.{first-written, then-written}
 
 -- the writes of put_row
@@ -222,12 +223,14 @@ pub record WantedLeft (tx : List ℕ) (from nodes cells units p : ℕ) : Type 0 
   pub nodes-left : nodes + length (levelsAt tx p) ≡ length (levelsAt tx from)
   pub cells-left : cells + weigh levelCells (levelsAt tx p) ≡ weigh levelCells (levelsAt tx from)
   pub units-left : units + runUnits (levelsAt tx p) ≡ runUnits (levelsAt tx from) + 1
-  pub nodes-most : nodes ≤ p
-  pub cells-most : cells ≤ p
-  pub units-most : units ≤ 2 * p + 1
+  pub nodes-most : nodes ≤ p - from
+  pub cells-most : cells ≤ p - from
+  pub units-most : units ≤ 2 * (p - from) + 1
+  pub onward : from ≤ p
+  pub within : p ≤ max from (length tx + 1)
 
 pub wanted-begin : (tx : List ℕ) (from : ℕ) → WantedLeft tx from 0 0 1 from
-wanted-begin tx from = record { nodes-left = omega arith; cells-left = omega arith; units-left = omega arith; nodes-most = omega arith; cells-most = omega arith; units-most = omega arith }
+wanted-begin tx from = record { nodes-left = omega arith; cells-left = omega arith; units-left = omega arith; nodes-most = omega arith; cells-most = omega arith; units-most = omega arith; onward = omega arith; within = omega arith }
 
 cells-few : (l : Level) → levelCells l ≤ (length l + 15) / 16
 cells-few l = go (isOnly 43 l || isOnly 35 l)
@@ -247,9 +250,11 @@ module _ (tx : List ℕ) (from nodes cells units p : ℕ) (r : WantedLeft tx fro
         nodes-left = rw z (omega (arith, r .nodes-left, ap length on));
         cells-left = rw z (omega (arith, r .cells-left, ap (weigh levelCells) on, q));
         units-left = rw z (omega (arith, r .units-left, ap runUnits on, units-on l gs));
-        nodes-most = omega (arith, r .nodes-most);
-        cells-most = omega (arith, r .cells-most, q, cells-few l);
-        units-most = omega (arith, r .units-most);
+        nodes-most = omega (arith, r .nodes-most, r .onward);
+        cells-most = omega (arith, r .cells-most, q, cells-few l, r .onward);
+        units-most = omega (arith, r .units-most, r .onward);
+        onward = omega (arith, r .onward);
+        within = omega (arith, part-fits tx p h e);
       }
 
   pub wanted-end : length tx < p → WantedFor (levelsAt tx from) (record { nodes = nodes; pairs = 1; cells = cells; units = units })
@@ -260,4 +265,13 @@ module _ (tx : List ℕ) (from nodes cells units p : ℕ) (r : WantedLeft tx fro
         pairs-are = refl;
         cells-are = omega (arith, r .cells-left, ap (weigh levelCells) n);
         units-are = omega (arith, r .units-left, ap runUnits n, units-none);
+      }
+
+  pub wanted-small : length tx ≤ 65535 → SmallLoad (record { nodes = nodes; pairs = 1; cells = cells; units = units })
+  wanted-small h =
+      record {
+        nodes-small = omega (arith, r .nodes-most, r .within, r .onward);
+        pairs-small = omega arith;
+        cells-small = omega (arith, r .cells-most, r .within, r .onward);
+        units-small = omega (arith, r .units-most, r .within, r .onward);
       }

@@ -33,12 +33,12 @@ noLoad = record { nodes = 0; pairs = 0; cells = 0; units = 0 }
 abbrev pub oneLoad : Load
 oneLoad = record { nodes = 0; pairs = 1; cells = 0; units = 1 }
 
--- what fits two bytes
+-- small enough to be added up
 pub record SmallLoad (l : Load) : Type 0 where
-  pub nodes-small : l .nodes < 65536
-  pub pairs-small : l .pairs < 65536
-  pub cells-small : l .cells < 65536
-  pub units-small : l .units < 65536
+  pub nodes-small : l .nodes < 4294967296
+  pub pairs-small : l .pairs < 4294967296
+  pub cells-small : l .cells < 4294967296
+  pub units-small : l .units < 4294967296
 
 -- units that lie below unit n
 pub data Under (n : ℕ) : List ℕ → Type 0 where

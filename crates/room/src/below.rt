@@ -9,7 +9,7 @@ use crate::counts;
 
 // Puts right the units below one node.
 fn move_one(s: &mut [u8], base: usize, i: usize, n: usize, more: usize, less: usize)
-    requires { ⌜ (i < n) × (unitAt base n ≤ length (now s)) × (more < 65536) ⌝ }
+    requires { ⌜ (i < n) × (unitAt base n ≤ length (now s)) × (more < 4294967296) ⌝ }
     ensures { λ _. ⌜ now (s .exit) ≡ belows more less base (i ∷ []) (now (s .entry)) ⌝ }
 {
     counts::move_count(s, base + i * 16 + 4, more, less);
@@ -25,7 +25,7 @@ pub fn move_below(
     more: usize,
     less: usize,
 )
-    requires { ⌜ (count ≤ 128) × (unitAt base n ≤ length (now s)) × Under n (take count nodes) × (more < 65536) ⌝ }
+    requires { ⌜ (count ≤ 128) × (unitAt base n ≤ length (now s)) × Under n (take count nodes) × (more < 4294967296) ⌝ }
     ensures { λ _. ⌜ now (s .exit) ≡ belows more less base (take count nodes) (now (s .entry)) ⌝ }
 {
     let mut j = 0;

@@ -8,6 +8,7 @@ ghost use Rattle.level.specs.Places.{levelsAt};
 ghost use Rattle.held.specs.Room.{levelCells};
 ghost use Rattle.region.specs.Layout.{levelUnits, headBytes, levelBytes};
 ghost use Rattle.forest.specs.Places.{unitAt};
+ghost use Rattle.room.specs.Changes.{SmallLoad};
 ghost use Rattle.room.specs.Runs.{runUnits, lastOwn, runBytes, runMarks, WantedFor};
 use crate::Load;
 
@@ -106,7 +107,7 @@ fn cells_of(level: &[u8]) -> usize
 // What new nodes for the levels of a text from place `from` on would take, where the last holds one.
 pub fn wanted_for(text: &[u8], from: usize) -> Load
     requires { ⌜ length (now text) ≤ 65535 ⌝ }
-    ensures { λ r. ⌜ WantedFor (levelsAt (now (text .entry)) from) r ⌝ }
+    ensures { λ r. ⌜ WantedFor (levelsAt (now (text .entry)) from) r × SmallLoad r ⌝ }
 {
     let mut nodes: usize = 0;
     let mut cells: usize = 0;

@@ -6,7 +6,7 @@ use crate::Load;
 
 // So many more, and so many less; 0 where that would be below 0.
 fn moved_by(x: u64, more: usize, less: usize) -> u64
-    requires { ⌜ (x < 65536) × (more < 65536) ⌝ }
+    requires { ⌜ (x < 65536) × (more < 4294967296) ⌝ }
     ensures { λ r. ⌜ r ≡ moved more less x ⌝ }
 {
     let most = x + more as u64;
@@ -18,7 +18,7 @@ fn moved_by(x: u64, more: usize, less: usize) -> u64
 }
 
 pub fn move_count(s: &mut [u8], at: usize, more: usize, less: usize)
-    requires { ⌜ more < 65536 ⌝ }
+    requires { ⌜ more < 4294967296 ⌝ }
     ensures { λ _. ⌜ now (s .exit) ≡ counted at more less (now (s .entry)) ⌝ }
 {
     let count = lent::get16(s, at);

@@ -3,6 +3,7 @@ mod below;
 mod chain;
 mod counts;
 mod cut;
+mod fit;
 mod make;
 mod take;
 

@@ -26,7 +26,7 @@ fn make_run(
     units: usize,
 )
     requires { ⌜ (depth ≤ 128) × Under n (take depth nodes) × (place ≤ n) × (unitAt base (n + units) ≤ length (now s)) × (64 + (n + units) ≤ length (now s)) ⌝ }
-    requires { ⌜ (units ≡ runUnits (levelsAt (now text) from)) × (units < 65536) × (length (now text) ≤ 65535) × (length (now unit) ≡ 16) × (depth + 1 + length (levelsAt (now text) from) ≤ 256) ⌝ }
+    requires { ⌜ (units ≡ runUnits (levelsAt (now text) from)) × (units < 4294967296) × (length (now text) ≤ 65535) × (length (now unit) ≡ 16) × (depth + 1 + length (levelsAt (now text) from) ≤ 256) ⌝ }
     ensures { λ _. ⌜ now (s .exit) ≡ madeRun base n (take depth nodes) place (depth + 1) (now (unit .entry)) (levelsAt (now (text .entry)) from) units (now (s .entry)) ⌝ }
 {
     below::move_below(s, base, nodes, depth, n, units, 0);

@@ -1,7 +1,7 @@
 use Prim.Native.Nat.{_+_, _-_}
 use lib.ListN.{length}
 use Rattle.level.proofs.Split.{part-fits}
-use Rattle.room.proofs.RunLaws.{level-short, WantedLeft, wanted-begin, wanted-step, wanted-end}
+use Rattle.room.proofs.RunLaws.{level-short, WantedLeft, wanted-begin, wanted-step, wanted-end, wanted-small}
 use borrow.Author.Needs.{needs}
 use Rattle.room.proofs.chain.wanted_for.Statement.{statement}
 use Rattle.room.proofs.chain.wanted_for.Tie as tie
@@ -62,7 +62,7 @@ loop-again c = search (needs, wanted-step)
 
 -- src/chain.rt:91:1
 returns : tie.Need-returns Inv-loop μ-loop
-returns c = search (needs, wanted-end)
+returns c = search (needs, wanted-end, wanted-small)
 
 pub wanted-for-spec : {M : Type 1} → statement M
 wanted-for-spec =
