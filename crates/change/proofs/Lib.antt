@@ -10,3 +10,4 @@ pub mod PlaceLaws
 pub mod EditLaws
 pub mod CutLaws
 pub mod FoundLaws
+pub mod StoreLaws

@@ -20,7 +20,7 @@ use Rattle.forest.proofs.StandsLaws.{fork-units, length-marks}
 use Rattle.change.specs.Ways.{Way, plug, wide, ahead, downs, front, behind, deep, rowMarks, markFront, markBehind}
 use Rattle.change.specs.Reach.{growHere}
 use Rattle.room.specs.Runs.{runUnits, runBytes, runMarks}
-use Rattle.room.specs.Changes.{moved, counted, belows, madeRun, putUnit, takenRun, cutUnit}
+use Rattle.room.specs.Changes.{moved, counted, belows, madeRun, between, putUnit, takenRun, cutUnit}
 use Rattle.change.specs.View.{View}
 use Rattle.change.proofs.WayLaws.{units-plug, wide-add, length-front, bytes-plug, length-mark-front, marks-plug}
 use Rattle.room.proofs.RunLaws.{length-run, length-run-marks}
@@ -229,7 +229,7 @@ module _ {X : Type 0} (u : Form X) (R : ℕ) (w : Way X) (t : Level) (a b : List
   new-units = omega (arith, fork-units t (a ++ (x ∷ b)) k n, fork-units t (a ++ b) k n, length-append a (x ∷ b), length-append a b)
 
   pub unit-view : View R unit-added (unitsF (plug w (fork t (a ++ (x ∷ b)) k n))) (marksOf 1 (plug w (fork t (a ++ (x ∷ b)) k n))) (unitBytes (u .write) (plug w (fork t (a ++ (x ∷ b)) k n)))
-  unfolding putUnit
+  unfolding putUnit between
   unit-view =
       view-to u R w unit-added (fork t (a ++ (x ∷ b)) k n)
       (view-as (sym (ap (wide w) new-units ∙ wide-add w old 1)) (sym (row-marks-with u w t a b k n x))
@@ -238,7 +238,7 @@ module _ {X : Type 0} (u : Form X) (R : ℕ) (w : Way X) (t : Level) (a b : List
       (mark-long u w t a b k n) (lead-long u w t a b k n (old + 1) (length (a ++ (x ∷ b)))) refl (u .long x) room))
 
   pub unit-framed : Framed 64 (64 + 17 * R) s unit-added
-  unfolding putUnit
+  unfolding putUnit between
   unit-framed =
       framed-trans 64 (64 + 17 * R) s s₁ unit-added
       (framed-below u R all 1 0 old (old + 1) (omega arith) w s

@@ -4,3 +4,4 @@ pub mod Instances
 pub mod Stores
 pub mod CountLaws
 pub mod ShapeLaws
+pub mod Fitted

@@ -12,8 +12,7 @@ use Rattle.forest.specs.Places.{unitAt}
 use Rattle.held.specs.Order.{Filter}
 use Rattle.room.specs.declared.Load.{Load}
 use Rattle.room.specs.Runs.{runBytes, runMarks}
-use Rattle.room.specs.Changes.{counted, belows, countsMoved, noLoad, oneLoad, madeRun, madeChain, putUnit, madeUnit, takenRun, takenChain, cutUnit, takenUnit}
-use Rattle.room.proofs.BelowLaws.{length-counted, length-belows}
+use Rattle.room.specs.Changes.{counted, belows, countsMoved, noLoad, oneLoad, madeRun, madeChain, between, putUnit, madeUnit, takenRun, takenChain, cutUnit, takenUnit}
 
 pub length-opened : (at end by : ℕ) (s : List ℕ) → at ≤ end → end + by ≤ length s → length (opened at end by s) ≡ length s
 length-opened at end by s h k =
@@ -32,18 +31,21 @@ pub chain-made : (base n place d : ℕ) (nodes x : List ℕ) (gs : Filter) (load
 unfolding madeChain
 chain-made base n place d nodes x gs load s t u a b = rw a at b
 
-pub unit-made : (base n node at : ℕ) (nodes x s s₁ s₂ s₃ s₄ s₅ s₆ s₇ : List ℕ) → at ≤ n → unitAt base (n + 1) ≤ length s → 64 + (n + 1) ≤ length s → length x ≡ 16
-    → s₁ ≡ belows 1 0 base nodes s → s₂ ≡ counted (base + node * 16 + 2) 1 0 s₁ → s₃ ≡ opened (base + at * 16) (base + n * 16) 16 s₂ → s₄ ≡ write (base + at * 16) x s₃
-    → s₅ ≡ opened (64 + at) (64 + n) 1 s₄ → s₆ ≡ write (64 + at) (replicate 1 255) s₅ → s₇ ≡ countsMoved oneLoad noLoad s₆ → s₇ ≡ madeUnit base n nodes node at x s
+pub unit-between : (base n at : ℕ) (x s s₁ s₂ s₃ s₄ : List ℕ) → at ≤ n → unitAt base (n + 1) ≤ length s → 64 + (n + 1) ≤ length s → length x ≡ 16
+    → s₁ ≡ opened (base + at * 16) (base + n * 16) 16 s → s₂ ≡ write (base + at * 16) x s₁ → s₃ ≡ opened (64 + at) (64 + n) 1 s₂ → s₄ ≡ write (64 + at) (replicate 1 255) s₃
+    → s₄ ≡ between base n at x s
+unfolding between
+unit-between base n at x s s₁ s₂ s₃ s₄ p q m l c d e f =
+    let l₁ : length s₁ ≡ length s = ap length c ∙ length-opened (base + at * 16) (base + n * 16) 16 s (omega arith) (omega arith) in
+    let d′ : s₂ ≡ patch (base + at * 16) x s₁ = d ∙ write-in (base + at * 16) x s₁ (omega (arith, l₁, l)) in
+    let l₂ : length s₂ ≡ length s = ap length d′ ∙ length-patch (base + at * 16) x s₁ (omega (arith, l₁, l)) ∙ l₁ in
+    let l₃ : length s₃ ≡ length s = ap length e ∙ length-opened (64 + at) (64 + n) 1 s₂ (omega arith) (omega (arith, l₂)) ∙ l₂ in
+    f ∙ write-in (64 + at) (255 ∷ []) s₃ (omega (arith, l₃)) ∙ rw (e, d′, c)
+
+pub unit-made : (base n node at : ℕ) (nodes x s s₁ s₂ s₃ s₄ : List ℕ) → s₁ ≡ belows 1 0 base nodes s → s₂ ≡ counted (base + node * 16 + 2) 1 0 s₁
+    → s₃ ≡ between base n at x s₂ → s₄ ≡ countsMoved oneLoad noLoad s₃ → s₄ ≡ madeUnit base n nodes node at x s
 unfolding madeUnit putUnit
-unit-made base n node at nodes x s s₁ s₂ s₃ s₄ s₅ s₆ s₇ p q m l a b c d e f g =
-    let l₂ : length s₂ ≡ length s = ap length b ∙ length-counted (base + node * 16 + 2) 1 0 s₁ ∙ ap length a ∙ length-belows 1 0 base nodes s in
-    let l₃ : length s₃ ≡ length s = ap length c ∙ length-opened (base + at * 16) (base + n * 16) 16 s₂ (omega arith) (omega (arith, l₂)) ∙ l₂ in
-    let d′ : s₄ ≡ patch (base + at * 16) x s₃ = d ∙ write-in (base + at * 16) x s₃ (omega (arith, l₃, l)) in
-    let l₄ : length s₄ ≡ length s = ap length d′ ∙ length-patch (base + at * 16) x s₃ (omega (arith, l₃, l)) ∙ l₃ in
-    let l₅ : length s₅ ≡ length s = ap length e ∙ length-opened (64 + at) (64 + n) 1 s₄ (omega arith) (omega (arith, l₄)) ∙ l₄ in
-    let f′ : s₆ ≡ patch (64 + at) (255 ∷ []) s₅ = f ∙ write-in (64 + at) (255 ∷ []) s₅ (omega (arith, l₅)) in
-    rw (f′, e, d′, c, b, a) at g
+unit-made base n node at nodes x s s₁ s₂ s₃ s₄ a b c d = rw (c, b, a) at d
 
 pub run-taken : (base n at c : ℕ) (nodes s s₁ s₂ s₃ : List ℕ) → s₁ ≡ belows 0 c base nodes s → s₂ ≡ closed (base + at * 16) (base + (n - c) * 16) (c * 16) s₁
     → s₃ ≡ closed (64 + at) (64 + (n - c)) c s₂ → s₃ ≡ takenRun base n nodes at c s

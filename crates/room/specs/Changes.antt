@@ -58,12 +58,13 @@ madeRun base n nodes place d x gs c s =
 unfoldable pub madeChain : (base n : ℕ) (nodes : List ℕ) (place d : ℕ) (x : List ℕ) (gs : Filter) (load : Load) → List ℕ → List ℕ
 madeChain base n nodes place d x gs load s = countsMoved load noLoad (madeRun base n nodes place d x gs (load .units) s)
 
--- the unit x before unit `at`, for a node below some nodes; and the counts
+-- the unit x before unit `at`, with its mark; for a node below some nodes; and the counts
+unfoldable pub between : (base n at : ℕ) (x : List ℕ) → List ℕ → List ℕ
+between base n at x s =
+    patch (64 + at) (255 ∷ []) (opened (64 + at) (64 + n) 1 (patch (unitAt base at) x (opened (unitAt base at) (unitAt base n) 16 s)))
+
 unfoldable pub putUnit : (base n : ℕ) (nodes : List ℕ) (node at : ℕ) (x : List ℕ) → List ℕ → List ℕ
-putUnit base n nodes node at x s =
-    patch (64 + at) (255 ∷ [])
-    (opened (64 + at) (64 + n) 1
-    (patch (unitAt base at) x (opened (unitAt base at) (unitAt base n) 16 (counted (unitAt base node + 2) 1 0 (belows 1 0 base nodes s)))))
+putUnit base n nodes node at x s = between base n at x (counted (unitAt base node + 2) 1 0 (belows 1 0 base nodes s))
 
 unfoldable pub madeUnit : (base n : ℕ) (nodes : List ℕ) (node at : ℕ) (x : List ℕ) → List ℕ → List ℕ
 madeUnit base n nodes node at x s = countsMoved oneLoad noLoad (putUnit base n nodes node at x s)

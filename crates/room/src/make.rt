@@ -5,7 +5,7 @@ ghost use lib.ListN.{length, take};
 ghost use Rattle.level.specs.Places.{levelsAt};
 ghost use Rattle.forest.specs.Places.{unitAt};
 ghost use Rattle.room.specs.Runs.{runUnits, WantedFor};
-ghost use Rattle.room.specs.Changes.{Under, SmallLoad, madeRun, madeChain, madeUnit};
+ghost use Rattle.room.specs.Changes.{Under, SmallLoad, madeRun, madeChain, between, madeUnit};
 use crate::Load;
 use crate::below;
 use crate::chain;
@@ -64,6 +64,17 @@ pub fn make_chain(
     counts::move_counts(s, load, none);
 }
 
+// Puts `unit` before unit `at`, and its mark.
+fn put_between(s: &mut [u8], base: usize, n: usize, at: usize, unit: &[u8])
+    requires { ⌜ (at ≤ n) × (unitAt base (n + 1) ≤ length (now s)) × (64 + (n + 1) ≤ length (now s)) × (length (now unit) ≡ 16) ⌝ }
+    ensures { λ _. ⌜ now (s .exit) ≡ between base n at (now (unit .entry)) (now (s .entry)) ⌝ }
+{
+    lent::open_gap(s, base + at * 16, base + n * 16, 16);
+    lent::copy_in(s, base + at * 16, unit);
+    lent::open_gap(s, 64 + at, 64 + n, 1);
+    lent::fill(s, 64 + at, 1, 255);
+}
+
 // Puts `unit` before unit `at`, for the node at unit `node`, which stands below `depth` nodes.
 pub fn make_unit(
     s: &mut [u8],
@@ -80,9 +91,6 @@ pub fn make_unit(
 {
     below::move_below(s, base, nodes, depth, n, 1, 0);
     counts::move_count(s, base + node * 16 + 2, 1, 0);
-    lent::open_gap(s, base + at * 16, base + n * 16, 16);
-    lent::copy_in(s, base + at * 16, unit);
-    lent::open_gap(s, 64 + at, 64 + n, 1);
-    lent::fill(s, 64 + at, 1, 255);
+    put_between(s, base, n, at, unit);
     counts::add_pair(s);
 }
