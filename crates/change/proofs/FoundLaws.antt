@@ -22,7 +22,7 @@ use Rattle.change.specs.Ways.{Frame, past, down, Way, plug, wide, ahead,
 use Rattle.change.specs.Reach.{Reach, ended, before, there, pass as reach-pass, into as reach-into}
 use Rattle.room.specs.Stay.{loneAt, above, staying}
 use Rattle.change.specs.Cut.{Alone, last, only, CutAt, here, pass, into}
-use Rattle.change.proofs.ReachLaws.{reach-nodes, no-fork}
+use Rattle.change.proofs.ReachLaws.{reach-nodes, no-fork, no-cons}
 use Rattle.change.proofs.CutLaws.{cut-plug}
 use Rattle.change.proofs.WayLaws.{units-plug, wide-ahead}
 
@@ -106,9 +106,6 @@ module _ {X : Type 0} (u : Form X) (base : ℕ) (s : List ℕ) (m : ℕ) (e : Li
   abbrev pub GoesHere : Forest X → Type 0
   GoesHere leaf = ⊥
   GoesHere (fork g v k n) = Goes g (fork g v k n)
-
-  some-level : (g : Level) (gs : Filter) → _≡_ {A = Filter} (g ∷ gs) [] → ⊥
-  some-level g gs z = let q : true ≡ false = cc in true≢false q
 
   -- one further down
   deeper : (lo : ℕ) (g h : Level) (hs : Filter) (b : List X) (c n : Forest X) (ks : List ℕ) (j : ℕ) (r : Cuts e (h ∷ hs) c (lo + rowUnits g b) ks j)
@@ -307,8 +304,8 @@ module _ {X : Type 0} (u : Form X) (base : ℕ) (s : List ℕ) (m : ℕ) (e : Li
 
   found : {p : Filter} {F : Forest X} {w : Way X} {G : Forest X} {l : Filter} (d lo hi : ℕ) → Stands (u .write) (u .Small) base s d lo hi F → hi ≤ m
       → Reach p F w G l → l ≡ [] → GoesHere G → Found p lo F
-  found d lo hi st q (ended {g = g} {gs = gs}) e₀ z = absurd (some-level g gs e₀)
-  found d lo hi st q (before {g = g} {gs = gs} x) e₀ z = absurd (some-level g gs e₀)
+  found d lo hi st q (ended {g = g} {gs = gs}) e₀ z = absurd (no-cons g gs (sym e₀))
+  found d lo hi st q (before {g = g} {gs = gs} x) e₀ z = absurd (no-cons g gs (sym e₀))
   found d lo hi st q (there {g = g} {v = v} {k = k} {n = n}) e₀ z = last-step lo g (fork g v k n) (st .rows) z
   found d lo hi st q (reach-pass {g = g} {t = a} {gs = gs} {v = b} {k = c} {n = f} l r) e₀ z =
       pass-step lo g a gs b c f (st .rows) l r (found d (lo + rowUnits a b + unitsF c) hi (stands-next u base s d lo hi a b c f st) q r e₀ z)

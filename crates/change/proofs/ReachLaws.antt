@@ -17,7 +17,7 @@ use Rattle.forest.specs.Paths.{seekAt, nodesAt, spotAt}
 use Rattle.change.specs.Ways.{past, down, Way, plug, ahead, downs}
 use Rattle.change.specs.Reach.{Reach, ended, before, there, pass, into, growHere, lastNode}
 
-no-cons : (g : Level) (gs : Filter) → _≡_ {A = Filter} [] (g ∷ gs) → ⊥
+pub no-cons : (g : Level) (gs : Filter) → _≡_ {A = Filter} [] (g ∷ gs) → ⊥
 no-cons g gs e = let z : 0 ≡ suc (length gs) = ap length e in omega (arith, z)
 
 pub no-fork : {X : Type 0} (t : Level) (v : List X) (k n : Forest X) → _≡_ {A = Forest X} (fork t v k n) leaf → ⊥
