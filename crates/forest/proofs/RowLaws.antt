@@ -31,9 +31,9 @@ module _ (base i n : ℕ) (s : List ℕ) (some : i < n) (within : unitAt base n 
   unfolding kidsEnd
   past-eq = refl
 
-  pub row-is : {len own below end past : ℕ} → len ≡ read 2 (base + i * 16) s → own ≡ read 2 (base + i * 16 + 2) s → below ≡ read 2 (base + i * 16 + 4) s
+  pub row-is : {len own below end past : ℕ} → len ≡ read 2 (base + i * 16) s → len < 65536 → own ≡ read 2 (base + i * 16 + 2) s → below ≡ read 2 (base + i * 16 + 4) s
       → end ≡ min (i + (len + 23) / 16 + own) n → past ≡ min (end + below) n → RowAt base s i n (record { len = len; own = own; end = end; past = past })
-  row-is el eo eb ee ep =
+  row-is el hl eo eb ee ep =
       let l = el ∙ len-read in
       let o = eo ∙ own-read in
       let b = eb ∙ below-read in
@@ -46,6 +46,7 @@ module _ (base i n : ℕ) (s : List ℕ) (some : i < n) (within : unitAt base n 
         on = omega arith;
         within = omega arith;
         last = omega arith;
+        short = hl;
       }
 
   pub level-is : {g len : ℕ} → g ≡ read 2 (base + i * 16) s → len ≡ min g ((n - i) * 16 - 8)

@@ -54,3 +54,4 @@ pub record RowAt (base : ℕ) (s : List ℕ) (i n : ℕ) (r : Row) : Type 0 wher
   pub on : i < r .end
   pub within : r .end ≤ r .past
   pub last : r .past ≤ n
+  pub short : r .len < 65536

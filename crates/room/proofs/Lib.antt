@@ -3,3 +3,4 @@ pub mod RunLaws
 pub mod BelowLaws
 pub mod MakeLaws
 pub mod StayLaws
+pub mod WithinLaws

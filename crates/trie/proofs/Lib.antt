@@ -1,5 +1,6 @@
 pub mod SpotLaws
 pub mod ValueLaws
+pub mod SlotLaws
 pub mod StepLaws
 pub mod LastLaws
 pub mod StoredPath

@@ -1,2 +1,3 @@
 pub mod Values
+pub mod Slots
 pub mod Calls

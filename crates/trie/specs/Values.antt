@@ -1,5 +1,5 @@
 -- FOR THE CODE. The values that a node holds, one in each of its units, and the place of a value among them. Assumes nothing.
-use Prim.Native.Nat.{ℕ, zero, suc}
+use Prim.Native.Nat.{ℕ, zero, suc, _≤_, _<_}
 use mathlib.Core.Bool.{cond}
 use mathlib.Core.List.{List, [], _∷_}
 use lib.Dec.{eqb, ltb}
@@ -17,3 +17,7 @@ valuesFrom base s i (suc n) = read 4 (unitAt base i) s ∷ valuesFrom base s (su
 unfoldable pub spotFrom : (k x : ℕ) → List ℕ → Spot
 spotFrom k x [] = Nothing k
 spotFrom k x (v ∷ vs) = cond (ltb v x) (spotFrom (suc k) x vs) (cond (eqb v x) (At k) (Nothing k))
+
+abbrev pub Within : ℕ → Spot → Type 0
+Within n (At k) = k < n
+Within n (Nothing k) = k ≤ n

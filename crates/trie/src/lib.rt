@@ -1,4 +1,5 @@
 // The store of subscriptions: filters with their values.
+mod slots;
 mod values;
 
 use refusal::Refusal;
@@ -13,4 +14,11 @@ pub enum Changed {
 pub enum Spot {
     At(usize),
     Nothing(usize),
+}
+
+// The unit that holds a value, or the unit before which it would go; or the node's row is no store's.
+pub enum Slot {
+    Held(usize),
+    Free(usize),
+    Broken,
 }

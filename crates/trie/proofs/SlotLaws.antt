@@ -1,0 +1,37 @@
+-- The slot of a value, from the row that was read. Assumes nothing.
+use mathlib.Core.Path.{_≡_, refl, sym, ap, _∙_}
+use mathlib.Core.Bool.{true, false}
+use mathlib.Core.List.{List}
+use Prim.Native.Nat.{ℕ, _+_, _-_, _/_, _≤_, _<_}
+use native.Mathlib.Omega.{arith}
+use borrow.Author.Tests.{lt-ltb, le-ltb}
+use Rattle.forest.specs.declared.Row.{Row}
+use Rattle.forest.specs.Places.{levelUnitsAt, rowEnd, RowAt}
+use Rattle.trie.specs.declared.Spot.{Spot}
+use Rattle.trie.specs.declared.Spot.the-variants.{At, Nothing}
+use Rattle.trie.specs.declared.Slot.{Slot}
+use Rattle.trie.specs.declared.Slot.the-variants.{Held, Free, Broken}
+use Rattle.trie.specs.Values.{valuesFrom, spotFrom}
+use Rattle.trie.specs.Slots.{slotAt, slotIn}
+
+module _ (base : ℕ) (s : List ℕ) (n node x : ℕ) {row : Row} (r : RowAt base s node n row) {first end : ℕ} (ef : first ≡ node + (row .len + 23) / 16) (ee : end ≡ row .end) where
+  first-is : first ≡ node + levelUnitsAt base s node
+  first-is = ef ∙ rw (r .len-is)
+
+  end-is : end ≡ rowEnd base s node n
+  end-is = ee ∙ r .end-is
+
+  pub slot-broken : end < first → Broken ≡ slotIn base s n node x
+  unfolding slotIn
+  slot-broken h = rw (← first-is, ← end-is, lt-ltb end first h)
+
+  module _ (h : first ≤ end) {spot : Spot} (es : spot ≡ spotFrom 0 x (valuesFrom base s first (end - first))) where
+    slot-is : slotAt first spot ≡ slotIn base s n node x
+    unfolding slotIn
+    slot-is = rw (← first-is, ← end-is, le-ltb end first h, ← es)
+
+    pub slot-held : {k : ℕ} → spot ≡ At k → Held (first + k) ≡ slotIn base s n node x
+    slot-held e = ap (slotAt first) (sym e) ∙ slot-is
+
+    pub slot-free : {k : ℕ} → spot ≡ Nothing k → Free (first + k) ≡ slotIn base s n node x
+    slot-free e = ap (slotAt first) (sym e) ∙ slot-is

@@ -1,0 +1,56 @@
+-- FOR THE CODE. The slot of a value at a node: the unit that holds it, or the unit before which it would go. And what adding
+-- to a region answers and leaves, by its tests. Assumes nothing.
+use mathlib.Core.Path.{_≡_}
+use Prim.Native.Nat.{ℕ, _+_, _-_, _≤_, _<_}
+use mathlib.Core.Bool.{false, cond}
+use mathlib.Core.List.{List}
+use lib.Dec.{ltb}
+use Rattle.refusal.specs.declared.Refusal.{Refusal}
+use Rattle.refusal.specs.declared.Refusal.the-variants.{NotAStore}
+use Rattle.lent.specs.Total.{read}
+use Rattle.topic.specs.Answers.{checked}
+use Rattle.topic.specs.declared.Checked.{Checked}
+use Rattle.topic.specs.declared.Checked.the-variants.{Accepted, Refused as NotAccepted}
+use Rattle.held.specs.Order.{Filter}
+use Rattle.held.specs.Room.{fullRules}
+use Rattle.region.specs.declared.Capacities.{Capacities}
+use Rattle.region.specs.Opening.{roomOf}
+use Rattle.region.specs.Shapes.{CapacitiesOf}
+use Rattle.region.specs.Units.{valueBytes}
+use Rattle.forest.specs.Places.{levelUnitsAt, rowEnd}
+use Rattle.room.specs.declared.Load.{Load}
+use Rattle.room.specs.Changes.{madeUnit, madeChain}
+use Rattle.trie.specs.declared.Changed.{Changed}
+use Rattle.trie.specs.declared.Changed.the-variants.{Done, Refused}
+use Rattle.trie.specs.declared.Spot.{Spot}
+use Rattle.trie.specs.declared.Spot.the-variants.{At, Nothing}
+use Rattle.trie.specs.declared.Slot.{Slot}
+use Rattle.trie.specs.declared.Slot.the-variants.{Held, Free, Broken}
+use Rattle.trie.specs.Values.{valuesFrom, spotFrom}
+
+-- from the place of a value among those from unit `first` on
+abbrev pub slotAt : ℕ → Spot → Slot
+slotAt first (At k) = Held (first + k)
+slotAt first (Nothing k) = Free (first + k)
+
+-- whatever the bytes are, of the node at a unit below n; `Broken` where its row is cut off before its values
+unfoldable pub slotIn : (base : ℕ) → List ℕ → (n node x : ℕ) → Slot
+slotIn base s n node x =
+    cond (ltb (rowEnd base s node n) (node + levelUnitsAt base s node)) Broken
+    (slotAt (node + levelUnitsAt base s node)
+    (spotFrom 0 x (valuesFrom base s (node + levelUnitsAt base s node) (rowEnd base s node n - (node + levelUnitsAt base s node)))))
+
+abbrev pub Below : ℕ → Slot → Type 0
+Below n (Held at) = at < n
+Below n (Free at) = at ≤ n
+Below n Broken = Unit {0}
+
+-- what is needed more: nodes, a pair, cells, by the counts of the header
+abbrev pub fitting : List ℕ → Capacities → (nodes cells : ℕ) → Checked
+fitting s c nodes cells = checked (fullRules (roomOf c) false (read 2 10 s + nodes) (read 2 12 s + 1) (read 2 14 s + cells))
+
+-- a unit for a value, and new nodes with one: refused for room, or because the units do not fit; or added
+pub data Added (s : List ℕ) (c : Capacities) (n room nodes cells units : ℕ) (made : List ℕ) : List ℕ → Changed → Type 0 where
+  no-fit : {r : Refusal} → fitting s c nodes cells ≡ NotAccepted r → Added s c n room nodes cells units made s (Refused r)
+  no-room : room < n + units → fitting s c nodes cells ≡ Accepted → Added s c n room nodes cells units made s (Refused NotAStore)
+  added : n + units ≤ room → fitting s c nodes cells ≡ Accepted → Added s c n room nodes cells units made made (Done 1)
