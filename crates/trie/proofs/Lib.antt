@@ -4,4 +4,3 @@ pub mod SlotLaws
 pub mod StepLaws
 pub mod LastLaws
 pub mod StoredPath
-pub mod InsertLaws

@@ -8,9 +8,7 @@ use borrow.Author.Tests.{lt-ltb, le-ltb}
 use Rattle.forest.specs.declared.Row.{Row}
 use Rattle.forest.specs.Places.{levelUnitsAt, rowEnd, RowAt}
 use Rattle.trie.specs.declared.Spot.{Spot}
-use Rattle.trie.specs.declared.Spot.the-variants.{At, Nothing}
 use Rattle.trie.specs.declared.Slot.{Slot}
-use Rattle.trie.specs.declared.Slot.the-variants.{Held, Free, Broken}
 use Rattle.trie.specs.Values.{valuesFrom, spotFrom}
 use Rattle.trie.specs.Slots.{slotAt, slotIn}
 
@@ -21,17 +19,11 @@ module _ (base : ℕ) (s : List ℕ) (n node x : ℕ) {row : Row} (r : RowAt bas
   end-is : end ≡ rowEnd base s node n
   end-is = ee ∙ r .end-is
 
-  pub slot-broken : end < first → Broken ≡ slotIn base s n node x
+  pub slot-broken : end < first → _≡_ {A = Slot} (record { at = 0; held = false; sound = false }) (slotIn base s n node x)
   unfolding slotIn
   slot-broken h = rw (← first-is, ← end-is, lt-ltb end first h)
 
   module _ (h : first ≤ end) {spot : Spot} (es : spot ≡ spotFrom 0 x (valuesFrom base s first (end - first))) where
-    slot-is : slotAt first spot ≡ slotIn base s n node x
+    pub slot-sound : _≡_ {A = Slot} (record { at = first + spot .at; held = spot .held; sound = true }) (slotIn base s n node x)
     unfolding slotIn
-    slot-is = rw (← first-is, ← end-is, le-ltb end first h, ← es)
-
-    pub slot-held : {k : ℕ} → spot ≡ At k → Held (first + k) ≡ slotIn base s n node x
-    slot-held e = ap (slotAt first) (sym e) ∙ slot-is
-
-    pub slot-free : {k : ℕ} → spot ≡ Nothing k → Free (first + k) ≡ slotIn base s n node x
-    slot-free e = ap (slotAt first) (sym e) ∙ slot-is
+    slot-sound = rw (← first-is, ← end-is, le-ltb end first h, ← es)

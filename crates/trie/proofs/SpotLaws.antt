@@ -14,7 +14,6 @@ use Rattle.lent.specs.Total.{read}
 use Rattle.region.specs.Units.{valueBytes}
 use Rattle.forest.specs.Places.{unitAt}
 use Rattle.trie.specs.declared.Spot.{Spot}
-use Rattle.trie.specs.declared.Spot.the-variants.{At, Nothing}
 use Rattle.trie.specs.Values.{valuesFrom, spotFrom}
 
 values-some : (base : ℕ) (s : List ℕ) (i n : ℕ) → 0 < n → valuesFrom base s i n ≡ read 4 (unitAt base i) s ∷ valuesFrom base s (i + 1) (n - 1)
@@ -33,15 +32,15 @@ spot-on : (k x v : ℕ) (vs : List ℕ) → v < x → spotFrom k x (v ∷ vs) �
 unfolding spotFrom
 spot-on k x v vs h = rw (lt-ltb v x h, add-one)
 
-spot-here : (k x v : ℕ) (vs : List ℕ) → v ≡ x → spotFrom k x (v ∷ vs) ≡ At k
+spot-here : (k x v : ℕ) (vs : List ℕ) → v ≡ x → spotFrom k x (v ∷ vs) ≡ record { at = k; held = true }
 unfolding spotFrom
 spot-here k x v vs e = rw (le-ltb v x (omega (arith, e)), eq-eqb v x e)
 
-spot-past : (k x v : ℕ) (vs : List ℕ) → x < v → spotFrom k x (v ∷ vs) ≡ Nothing k
+spot-past : (k x v : ℕ) (vs : List ℕ) → x < v → spotFrom k x (v ∷ vs) ≡ record { at = k; held = false }
 unfolding spotFrom
 spot-past k x v vs h = rw (le-ltb v x (omega arith), ne-eqb v x (λ (e : v ≡ x). omega (arith, e)))
 
-spot-none : (k x : ℕ) → spotFrom k x [] ≡ Nothing k
+spot-none : (k x : ℕ) → spotFrom k x [] ≡ record { at = k; held = false }
 unfolding spotFrom
 spot-none k x = refl
 
@@ -63,10 +62,10 @@ module _ (base : ℕ) (s : List ℕ) (i own x k : ℕ) (r : SpotLeft base s i ow
         let b : own - k - 1 ≡ own - (k + 1) = omega arith in
         values-some base s (i + k) (own - k) (omega arith) ∙ rw (a, b, ← e)
 
-    pub spot-found : v ≤ x → x ≤ v → At k ≡ spotFrom 0 x (valuesFrom base s i own)
+    pub spot-found : v ≤ x → x ≤ v → _≡_ {A = Spot} (record { at = k; held = true }) (spotFrom 0 x (valuesFrom base s i own))
     spot-found p q = sym (spot-here k x v (valuesFrom base s (i + (k + 1)) (own - (k + 1))) (omega arith)) ∙ ap (spotFrom k x) (sym first) ∙ r .same
 
-    pub spot-before : x < v → Nothing k ≡ spotFrom 0 x (valuesFrom base s i own)
+    pub spot-before : x < v → _≡_ {A = Spot} (record { at = k; held = false }) (spotFrom 0 x (valuesFrom base s i own))
     spot-before q = sym (spot-past k x v (valuesFrom base s (i + (k + 1)) (own - (k + 1))) q) ∙ ap (spotFrom k x) (sym first) ∙ r .same
 
     pub spot-again : v < x → SpotLeft base s i own x (k + 1)
@@ -76,7 +75,7 @@ module _ (base : ℕ) (s : List ℕ) (i own x k : ℕ) (r : SpotLeft base s i ow
           on = omega arith;
         }
 
-  pub spot-end : own ≤ k → Nothing k ≡ spotFrom 0 x (valuesFrom base s i own)
+  pub spot-end : own ≤ k → _≡_ {A = Spot} (record { at = k; held = false }) (spotFrom 0 x (valuesFrom base s i own))
   spot-end h = sym (spot-none k x) ∙ ap (spotFrom k x) (sym (values-none base s (i + k) (own - k) (omega arith))) ∙ r .same
 
 -- the unit of a value, byte by byte

@@ -13,7 +13,6 @@ use Rattle.lent.proofs.Anywhere.{lt-or-ge}
 use Rattle.held.specs.Ascending.{Below, Asc, member, put, keep}
 use Rattle.held.specs.Edit.{withValue, withoutValue, AscValues}
 use Rattle.trie.specs.declared.Spot.{Spot}
-use Rattle.trie.specs.declared.Spot.the-variants.{At, Nothing}
 use Rattle.trie.specs.Values.{spotFrom}
 
 -- x is not among the values, and goes before value k; or it is value k
@@ -103,37 +102,46 @@ strictly : (x v : ℕ) → x ≤ v → (v ≡ x → ⊥) → x < v
 strictly x v p n = ⊎-elim (λ (h : x < v). h) (λ (h : v ≤ x). absurd (n (omega arith))) (lt-or-ge x v)
 
 -- what the search answers
-abbrev Told : ℕ → ℕ → List ℕ → Spot → Type 0
-Told j x vs (At k) = (j ≤ k) × ((i : ℕ) → j + i ≡ k → Among x vs i)
-Told j x vs (Nothing k) = (j ≤ k) × ((i : ℕ) → j + i ≡ k → Apart x vs i)
+record Told (j x : ℕ) (vs : List ℕ) (p : Spot) : Type 0 where
+  on : j ≤ p .at
+  found : p .held ≡ true → (i : ℕ) → j + i ≡ p .at → Among x vs i
+  missed : p .held ≡ false → (i : ℕ) → j + i ≡ p .at → Apart x vs i
 
 told-on : (j x v : ℕ) (vs : List ℕ) (h : v < x) (p : Spot) → Told (suc j) x vs p → Told j x (v ∷ vs) p
-told-on j x v vs h (At k) t = (omega (arith, t .0), λ (i : ℕ) (e : j + i ≡ k). shift i e)
+told-on j x v vs h p t = record { on = omega (arith, t .on); found = found-on; missed = missed-on }
   where
-    shift : (i : ℕ) → j + i ≡ k → Among x (v ∷ vs) i
-    shift zero e = absurd (omega (arith, e, t .0))
-    shift (suc i) e = among-on x v vs i h (t .1 i (omega (arith, e)))
-told-on j x v vs h (Nothing k) t = (omega (arith, t .0), λ (i : ℕ) (e : j + i ≡ k). shift i e)
-  where
-    shift : (i : ℕ) → j + i ≡ k → Apart x (v ∷ vs) i
-    shift zero e = absurd (omega (arith, e, t .0))
-    shift (suc i) e = apart-on x v vs i h (t .1 i (omega (arith, e)))
+    found-on : p .held ≡ true → (i : ℕ) → j + i ≡ p .at → Among x (v ∷ vs) i
+    found-on q zero e = absurd (omega (arith, e, t .on))
+    found-on q (suc i) e = among-on x v vs i h (t .found q i (omega (arith, e)))
+
+    missed-on : p .held ≡ false → (i : ℕ) → j + i ≡ p .at → Apart x (v ∷ vs) i
+    missed-on q zero e = absurd (omega (arith, e, t .on))
+    missed-on q (suc i) e = apart-on x v vs i h (t .missed q i (omega (arith, e)))
 
 at-zero : (A : ℕ → Type 0) (j i : ℕ) → j + i ≡ j → A 0 → A i
 at-zero A j i e a = let z : 0 ≡ i = omega (arith, e) in subst A z a
 
 sought : (j x : ℕ) (vs : List ℕ) → AscValues vs → Told j x vs (spotFrom j x vs)
 unfolding spotFrom
-sought j x [] a = (omega arith, λ (i : ℕ) (e : j + i ≡ j). at-zero (Apart x []) j i e (record { before = []; after = []; count = refl; all = refl; absent = refl; with = refl }))
-sought j x (v ∷ vs) a = go (ltb v x) refl (eqb v x) refl (sought (suc j) x vs (a .1))
+sought j x [] a =
+    record {
+      on = omega arith;
+      found = λ (q : false ≡ true) (i : ℕ) (e : j + i ≡ j). absurd (true≢false (sym q));
+      missed = λ (q : false ≡ false) (i : ℕ) (e : j + i ≡ j). at-zero (Apart x []) j i e (record { before = []; after = []; count = refl; all = refl; absent = refl; with = refl });
+    }
+sought j x (v ∷ vs) a = go (ltb v x) refl (sought (suc j) x vs (a .1))
   where
-    go : (b : Bool) → ltb v x ≡ b → (c : Bool) → eqb v x ≡ c → Told (suc j) x vs (spotFrom (suc j) x vs) → Told j x (v ∷ vs) (cond b (spotFrom (suc j) x vs) (cond c (At j) (Nothing j)))
-    go true q c r i = told-on j x v vs (ltb-true v x q) (spotFrom (suc j) x vs) i
-    go false q true r z = (omega arith, λ (i : ℕ) (e : j + i ≡ j). at-zero (Among x (v ∷ vs)) j i e (among-here x v vs (eqb-true v x r) (a .0)))
-    go false q false r w = (omega arith, λ (i : ℕ) (e : j + i ≡ j). at-zero (Apart x (v ∷ vs)) j i e (apart-here x v vs (strictly x v (ltb-false v x q) (λ (z : v ≡ x). true≢false (sym (eq-eqb v x z) ∙ r))) (a .0)))
+    go : (b : Bool) → ltb v x ≡ b → Told (suc j) x vs (spotFrom (suc j) x vs) → Told j x (v ∷ vs) (cond b (spotFrom (suc j) x vs) (record { at = j; held = eqb v x }))
+    go true q i = told-on j x v vs (ltb-true v x q) (spotFrom (suc j) x vs) i
+    go false q w =
+        record {
+          on = omega arith;
+          found = λ (r : eqb v x ≡ true) (i : ℕ) (e : j + i ≡ j). at-zero (Among x (v ∷ vs)) j i e (among-here x v vs (eqb-true v x r) (a .0));
+          missed = λ (r : eqb v x ≡ false) (i : ℕ) (e : j + i ≡ j). at-zero (Apart x (v ∷ vs)) j i e (apart-here x v vs (strictly x v (ltb-false v x q) (λ (z : v ≡ x). true≢false (sym (eq-eqb v x z) ∙ r))) (a .0));
+        }
 
-pub spot-among : (x k : ℕ) (vs : List ℕ) → AscValues vs → At k ≡ spotFrom 0 x vs → Among x vs k
-spot-among x k vs a e = let t = rw (← e) at (sought 0 x vs a) in t .1 k (omega arith)
+pub spot-among : (x : ℕ) (vs : List ℕ) → AscValues vs → spotFrom 0 x vs .held ≡ true → Among x vs (spotFrom 0 x vs .at)
+spot-among x vs a e = sought 0 x vs a .found e (spotFrom 0 x vs .at) (omega arith)
 
-pub spot-apart : (x k : ℕ) (vs : List ℕ) → AscValues vs → Nothing k ≡ spotFrom 0 x vs → Apart x vs k
-spot-apart x k vs a e = let t = rw (← e) at (sought 0 x vs a) in t .1 k (omega arith)
+pub spot-apart : (x : ℕ) (vs : List ℕ) → AscValues vs → spotFrom 0 x vs .held ≡ false → Apart x vs (spotFrom 0 x vs .at)
+spot-apart x vs a e = sought 0 x vs a .missed e (spotFrom 0 x vs .at) (omega arith)

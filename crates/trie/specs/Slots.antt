@@ -2,7 +2,7 @@
 -- to a region answers and leaves, by its tests. Assumes nothing.
 use mathlib.Core.Path.{_≡_}
 use Prim.Native.Nat.{ℕ, _+_, _-_, _≤_, _<_}
-use mathlib.Core.Bool.{false, cond}
+use mathlib.Core.Bool.{true, false, cond}
 use mathlib.Core.List.{List}
 use lib.Dec.{ltb}
 use Rattle.refusal.specs.declared.Refusal.{Refusal}
@@ -23,27 +23,18 @@ use Rattle.room.specs.Changes.{madeUnit, madeChain}
 use Rattle.trie.specs.declared.Changed.{Changed}
 use Rattle.trie.specs.declared.Changed.the-variants.{Done, Refused}
 use Rattle.trie.specs.declared.Spot.{Spot}
-use Rattle.trie.specs.declared.Spot.the-variants.{At, Nothing}
 use Rattle.trie.specs.declared.Slot.{Slot}
-use Rattle.trie.specs.declared.Slot.the-variants.{Held, Free, Broken}
 use Rattle.trie.specs.Values.{valuesFrom, spotFrom}
 
--- from the place of a value among those from unit `first` on
+-- whatever the bytes are, of the node at a unit below n; not sound where its row is cut off before its values
 abbrev pub slotAt : ℕ → Spot → Slot
-slotAt first (At k) = Held (first + k)
-slotAt first (Nothing k) = Free (first + k)
+slotAt first p = record { at = first + p .at; held = p .held; sound = true }
 
--- whatever the bytes are, of the node at a unit below n; `Broken` where its row is cut off before its values
 unfoldable pub slotIn : (base : ℕ) → List ℕ → (n node x : ℕ) → Slot
 slotIn base s n node x =
-    cond (ltb (rowEnd base s node n) (node + levelUnitsAt base s node)) Broken
+    cond (ltb (rowEnd base s node n) (node + levelUnitsAt base s node)) (record { at = 0; held = false; sound = false })
     (slotAt (node + levelUnitsAt base s node)
     (spotFrom 0 x (valuesFrom base s (node + levelUnitsAt base s node) (rowEnd base s node n - (node + levelUnitsAt base s node)))))
-
-abbrev pub Below : ℕ → Slot → Type 0
-Below n (Held at) = at < n
-Below n (Free at) = at ≤ n
-Below n Broken = Unit {0}
 
 -- what is needed more: nodes, a pair, cells, by the counts of the header
 abbrev pub fitting : List ℕ → Capacities → (nodes cells : ℕ) → Checked

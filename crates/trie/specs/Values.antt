@@ -1,12 +1,11 @@
 -- FOR THE CODE. The values that a node holds, one in each of its units, and the place of a value among them. Assumes nothing.
-use Prim.Native.Nat.{ℕ, zero, suc, _≤_, _<_}
-use mathlib.Core.Bool.{cond}
+use Prim.Native.Nat.{ℕ, zero, suc}
+use mathlib.Core.Bool.{false, cond}
 use mathlib.Core.List.{List, [], _∷_}
 use lib.Dec.{eqb, ltb}
 use Rattle.lent.specs.Total.{read}
 use Rattle.forest.specs.Places.{unitAt}
 use Rattle.trie.specs.declared.Spot.{Spot}
-use Rattle.trie.specs.declared.Spot.the-variants.{At, Nothing}
 
 -- the values in so many units from unit i on
 unfoldable pub valuesFrom : (base : ℕ) → List ℕ → (i own : ℕ) → List ℕ
@@ -15,9 +14,5 @@ valuesFrom base s i (suc n) = read 4 (unitAt base i) s ∷ valuesFrom base s (su
 
 -- the first value that is not less than x is value k or a later one: where x is, or where it would go
 unfoldable pub spotFrom : (k x : ℕ) → List ℕ → Spot
-spotFrom k x [] = Nothing k
-spotFrom k x (v ∷ vs) = cond (ltb v x) (spotFrom (suc k) x vs) (cond (eqb v x) (At k) (Nothing k))
-
-abbrev pub Within : ℕ → Spot → Type 0
-Within n (At k) = k < n
-Within n (Nothing k) = k ≤ n
+spotFrom k x [] = record { at = k; held = false }
+spotFrom k x (v ∷ vs) = cond (ltb v x) (spotFrom (suc k) x vs) (record { at = k; held = eqb v x })

@@ -10,15 +10,15 @@ pub enum Changed {
     Refused(Refusal),
 }
 
-// Where a value is among those that a node holds, or where it would go.
-pub enum Spot {
-    At(usize),
-    Nothing(usize),
+// Where a value is among those that a node holds, if it is held; else where it would go.
+pub struct Spot {
+    pub at: usize,
+    pub held: bool,
 }
 
-// The unit that holds a value, or the unit before which it would go; or the node's row is no store's.
-pub enum Slot {
-    Held(usize),
-    Free(usize),
-    Broken,
+// The unit that holds a value, if it is held, else the unit before which it would go; and whether the node's row is a store's.
+pub struct Slot {
+    pub at: usize,
+    pub held: bool,
+    pub sound: bool,
 }
