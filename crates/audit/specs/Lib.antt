@@ -1,0 +1,4 @@
+pub mod Tests
+pub mod Tally
+pub mod Fine
+pub mod Decides
