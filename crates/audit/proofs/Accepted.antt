@@ -76,14 +76,13 @@ text-levels k d room (l ∷ f) h t =
 
 pub levels-text : (k : Kind) (d room : ℕ) (f : Filter) → LevelsFine k d room f → TextFine k d room f
 levels-text k d room [] r = tt
-levels-text k d room (l ∷ f) r =
-    (
-      omega (arith, r .few),
-      all-left (levelFine k) l f (r .levels),
-      omega (arith, r .narrow),
-      levels-text k (d + 1) (room - (length l + 1)) f
-          (record { levels = all-right (levelFine k) l f (r .levels); few = omega (arith, r .few); narrow = omega (arith, r .narrow) }),
-    )
+levels-text k d room (l ∷ f) r = (
+  omega (arith, r .few),
+  all-left (levelFine k) l f (r .levels),
+  omega (arith, r .narrow),
+  levels-text k (d + 1) (room - (length l + 1)) f
+      (record { levels = all-right (levelFine k) l f (r .levels); few = omega (arith, r .few); narrow = omega (arith, r .narrow) }),
+)
 
 -- what the tests of a text say of its levels
 not-not : (t : Bool) → t ≡ false → not t ≡ true
@@ -122,8 +121,7 @@ accepted-text k f a = go k f (a .text) (a .levels) (a .fine) (a .depth)
         → LevelsFine k 1 65536 (l ∷ f) × (l ∷ f ≡ [] ∷ [] → ⊥)
     first-rules k l f s e d b t u z w =
         let j : join (l ∷ f) ≡ s = ap join (sym e) ∙ join-split s in
-        let c : Clean (l ∷ f) = subst (λ (x : Filter). Clean x) e (clean-split s) in
-        (
+        let c : Clean (l ∷ f) = subst (λ (x : Filter). Clean x) e (clean-split s) in (
           record {
             levels = text-fine l f k c (rw j u) (rw j z) w;
             few = omega (arith, d);
@@ -131,6 +129,7 @@ accepted-text k f a = go k f (a .text) (a .levels) (a .fine) (a .depth)
           },
           (λ (q : l ∷ f ≡ [] ∷ []). true≢false (sym (ap (λ (x : Filter). blank (join x)) q) ∙ ap blank j ∙ b)),
         )
+
     go : (k : Kind) (f : Filter) (s : List ℕ) → split s ≡ f → checked (rulesOf k s) ≡ Accepted → length f ≤ 128 → LevelsFine k 1 65536 f × (f ≡ [] ∷ [] → ⊥)
     go k [] s e h d = absurd (some-levels s e)
     go Subscriptions (l ∷ f) s e h d =
@@ -149,23 +148,51 @@ text-accepted k l f r h g = record { text = join (l ∷ f); levels = split-join 
   where
     parts : FineParts k (l ∷ f)
     parts = fine-parts k (l ∷ f) (r .levels)
+
     utf8 : not (isUtf8 (join (l ∷ f))) ≡ false
     utf8 = ap not (join-utf8 l f ∙ parts .utf8)
+
     nul : has 0 (join (l ∷ f)) ≡ false
     nul = not-true (has 0 (join (l ∷ f))) (join-nul l f ∙ parts .nul)
+
     clean : Clean (l ∷ f)
     clean = all-clean (l ∷ f) (parts .slash)
+
     free : all (λ l. not (fault k l)) (l ∷ f) ≡ true
     free = parts .free
+
     whole : split (join (l ∷ f)) ≡ l ∷ f
     whole = split-join l f clean
+
     fine : (j : Kind) → j ≡ k → checked (rulesOf j (join (l ∷ f))) ≡ Accepted
     fine Subscriptions e =
-        accepts (filterRules (join (l ∷ f)))
-        (blank-join l f h, (narrow-length l f (r .narrow), (utf8, (nul,
-        (rw whole (not-true (ltb (index bad (l ∷ f)) (length (l ∷ f))) (index-none bad (l ∷ f) ∙ subst (λ (x : Kind). all (λ l. not (fault x l)) (l ∷ f) ≡ true) (sym e) free)),
-        (rw whole (hash-only (l ∷ f) g), tt))))))
+        accepts (filterRules (join (l ∷ f))) (
+          blank-join l f h,
+          (
+            narrow-length l f (r .narrow),
+            (
+              utf8,
+              (
+                nul,
+                (
+                  rw whole (not-true (ltb (index bad (l ∷ f)) (length (l ∷ f))) (index-none bad (l ∷ f) ∙ subst (λ (x : Kind). all (λ l. not (fault x l)) (l ∷ f) ≡ true) (sym e) free)),
+                  (rw whole (hash-only (l ∷ f) g), tt),
+                ),
+              ),
+            ),
+          ),
+        )
     fine Retained e =
-        accepts (nameRules (join (l ∷ f)))
-        (blank-join l f h, (narrow-length l f (r .narrow), (utf8, (nul,
-        (not-true (wild (join (l ∷ f))) (join-wild l f ∙ subst (λ (x : Kind). all (λ l. not (fault x l)) (l ∷ f) ≡ true) (sym e) free), tt)))))
+        accepts (nameRules (join (l ∷ f))) (
+          blank-join l f h,
+          (
+            narrow-length l f (r .narrow),
+            (
+              utf8,
+              (
+                nul,
+                (not-true (wild (join (l ∷ f))) (join-wild l f ∙ subst (λ (x : Kind). all (λ l. not (fault x l)) (l ∷ f) ≡ true) (sym e) free), tt),
+              ),
+            ),
+          ),
+        )

@@ -1,3 +1,5 @@
 pub mod Joins
 pub mod Accepted
 pub mod Wells
+pub mod Octets
+pub mod Holdings

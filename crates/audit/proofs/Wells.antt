@@ -161,8 +161,7 @@ module _ {X : Type 0} where
     wells-fine d room leaf z r e o f a b = tt
     wells-fine d room (fork t v k n) z r e o f a b =
         let w = held-some (λ (x : Filter × X). TextFine kind d room (x .0)) t k v n f a in
-        let p = w .has .has in
-        (
+        let p = w .has .has in (
           record {
             depth = p .0;
             level = p .1;

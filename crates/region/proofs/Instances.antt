@@ -14,15 +14,15 @@ use Rattle.held.specs.Retained.{Stored}
 use Rattle.region.specs.Units.{valueBytes, valueOf, momentBytes, storedBytes, storedOf}
 use Rattle.region.specs.Forms.{Form, whole, Whole}
 
-value-long : (v : ℕ) → length (valueBytes v) ≡ 16
+pub value-long : (v : ℕ) → length (valueBytes v) ≡ 16
 unfolding valueBytes bytes
 value-long v = refl
 
-value-back : (v : ℕ) → v < 256 ^ 4 → valueOf (valueBytes v) ≡ v
+pub value-back : (v : ℕ) → v < 256 ^ 4 → valueOf (valueBytes v) ≡ v
 unfolding valueBytes valueOf bytes part
 value-back v h = be-bytes 4 v h
 
-pub values : Form ℕ
+abbrev pub values : Form ℕ
 values = record { write = valueBytes; read = valueOf; Small = λ v. v < 256 ^ 4; long = value-long; back = value-back }
 
 -- a moment that fits its 8 bytes
@@ -45,15 +45,15 @@ unfolding storedOf bytes part
 moment-back h none p q = rw (be-bytes 4 h p)
 moment-back h (some m) p q = rw (be-bytes 4 h p, be-bytes 8 m q)
 
-stored-long : (s : Stored) → length (storedBytes s) ≡ 16
+pub stored-long : (s : Stored) → length (storedBytes s) ≡ 16
 unfolding storedBytes
 stored-long s = moment-long (s .handle) (s .moment)
 
-stored-back : (s : Stored) → SmallStored s → storedOf (storedBytes s) ≡ s
+pub stored-back : (s : Stored) → SmallStored s → storedOf (storedBytes s) ≡ s
 unfolding storedBytes
 stored-back s f = moment-back (s .handle) (s .moment) (f .handle) (f .moment)
 
-pub records : Form Stored
+abbrev pub records : Form Stored
 records = record { write = storedBytes; read = storedOf; Small = SmallStored; long = stored-long; back = stored-back }
 
 -- a unit as it stands
