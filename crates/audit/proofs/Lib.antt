@@ -3,3 +3,4 @@ pub mod Accepted
 pub mod Wells
 pub mod Octets
 pub mod Holdings
+pub mod Written
