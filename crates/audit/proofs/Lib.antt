@@ -4,3 +4,5 @@ pub mod Wells
 pub mod Octets
 pub mod Holdings
 pub mod Written
+pub mod Turns
+pub mod RowTests

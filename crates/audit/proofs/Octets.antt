@@ -32,11 +32,13 @@ octets-take w s o i =
     (λ (h : w ≤ i). let e : getD (take w s) i 0 ≡ 0 = List·getD-eq-default (take w s) 0 {n = i} (rw length-take (omega arith)) in rw e (omega arith))
     (lt-or-ge i w)
 
+pub octets-part : (p w : ℕ) (s : List ℕ) → Octets s → Octets (part p w s)
+octets-part p w s o = rw (part-eq p w s) (octets-take w (drop p s) (octets-drop p s o))
+
 -- a number is written as the bytes that it was read from
 pub bytes-part : (p w : ℕ) (s : List ℕ) → Octets s → p + w ≤ length s → bytes w (be (part p w s)) ≡ part p w s
 bytes-part p w s o h =
-    let b : Octets (part p w s) = rw (part-eq p w s) (octets-take w (drop p s) (octets-drop p s o)) in
-    rw (length-part p w s h) at (bytes-be (part p w s) b)
+    rw (length-part p w s h) at (bytes-be (part p w s) (octets-part p w s o))
 
 pub part-number : (p w x : ℕ) (s : List ℕ) → Octets s → p + w ≤ length s → be (part p w s) ≡ x → part p w s ≡ bytes w x
 part-number p w x s o h e = sym (bytes-part p w s o h) ∙ ap (bytes w) e
