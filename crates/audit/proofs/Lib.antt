@@ -6,3 +6,4 @@ pub mod Holdings
 pub mod Written
 pub mod Turns
 pub mod RowTests
+pub mod RowBytes
