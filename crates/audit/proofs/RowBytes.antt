@@ -131,3 +131,61 @@ module _ {X : Type 0} {kind : Kind} (u : Holding X kind) (base : ℕ) (s : List 
           record { head = head-yes z; text = text-yes f; holds = r .0; mark = mark-yes d m; others = others-yes d m },
           r .1,
         )
+
+  -- and the other way round: what is written tells the numbers of the head
+  module _ (d below : ℕ) (small : below < 65536) (r : RowHere (u .form) base s d i (levelIn base s i n) (ownIn (u .form .read) base s i n) below) where
+    head-parts : (part (unitAt base i) 2 s ≡ bytes 2 (length (levelIn base s i n))) × (part (unitAt base i + 4) 2 s ≡ bytes 2 below) × (part (unitAt base i + 6) 2 s ≡ bytes 2 0)
+    unfolding headBytes
+    head-parts =
+        let l : List ℕ = bytes 2 (length (levelIn base s i n)) in
+        let v : List ℕ = bytes 2 (length (ownIn (u .form .read) base s i n)) in
+        let a = part-back (unitAt base i) 2 6 8 s l (v ++ (bytes 2 below ++ bytes 2 0)) refl (length-bytes 2 (length (levelIn base s i n))) (r .head) in
+        let b = part-back (unitAt base i + 2) 2 4 6 s v (bytes 2 below ++ bytes 2 0) refl (length-bytes 2 (length (ownIn (u .form .read) base s i n))) a in
+        let four : unitAt base i + 2 + 2 ≡ unitAt base i + 4 = omega arith in
+        let six : unitAt base i + 4 + 2 ≡ unitAt base i + 6 = omega arith in
+        let c : part (unitAt base i + 4) 4 s ≡ bytes 2 below ++ bytes 2 0 = rw four at b in
+        (
+          part-front (unitAt base i) 2 6 8 s l (v ++ (bytes 2 below ++ bytes 2 0)) refl (length-bytes 2 (length (levelIn base s i n))) (r .head),
+          part-front (unitAt base i + 4) 2 2 4 s (bytes 2 below) (bytes 2 0) refl (length-bytes 2 below) c,
+          rw six at (part-back (unitAt base i + 4) 2 2 4 s (bytes 2 below) (bytes 2 0) refl (length-bytes 2 below) c),
+        )
+
+    pub len-back : lenAt base s i ≡ length (levelIn base s i n)
+    len-back =
+        ap be (head-parts .0)
+        ∙ be-bytes 2 (length (levelIn base s i n)) (omega (arith, level-short, number-small (unitAt base i) s o (omega arith)))
+
+    pub below-back : belowAt base s i ≡ below
+    below-back = ap be (head-parts .1) ∙ be-bytes 2 below small
+
+    pub spare-back : be (part (unitAt base i + 6) 2 s) ≡ 0
+    spare-back = ap be (head-parts .2) ∙ be-bytes 2 0 (omega arith)
+
+    pub past-back : i + rowUnits (levelIn base s i n) (ownIn (u .form .read) base s i n) + below ≡ pastAt base s i
+    past-back = rw (← len-back, own-length, below-back) (omega arith)
+
+    module _ (fits : pastAt base s i ≤ n) where
+      pub fill-back : fillFine base s i ≡ true
+      unfolding levelBytes fillFine
+      fill-back =
+          let w : ℕ = levelUnitsAt base s i * 16 - 8 - lenAt base s i in
+          let t : part (unitAt base i + 8) (levelUnitsAt base s i * 16 - 8) s ≡ levelIn base s i n ++ replicate w 0 = rw (level-length fits) at (r .text) in
+          let q : part (unitAt base i + 8 + lenAt base s i) w s ≡ replicate w 0 =
+          part-back (unitAt base i + 8) (lenAt base s i) w (levelUnitsAt base s i * 16 - 8) s (levelIn base s i n) (replicate w 0) (omega arith) (level-length fits) t in
+          rw q (is-every 0 w)
+
+      pub holds-back : u .Fit (ownIn (u .form .read) base s i n) → ownFine kind (ownAt base s i) (drop (unitAt base (heldAt base s i)) s) ≡ true
+      holds-back p =
+          let h : part (unitAt base (heldAt base s i)) (ownAt base s i * 16) s ≡ each (u .form .write) (ownIn (u .form .read) base s i n) =
+          rw (level-length fits, own-length) at (r .holds) in
+          u .no (ownAt base s i) (drop (unitAt base (heldAt base s i)) s) (room-held fits)
+          (rw (← own-is fits) (sym h ∙ sym (take-held fits)))
+          (rw (own-is fits) at p)
+
+      pub marks-back : marksFine s d i (endAt base s i) ≡ true
+      unfolding marksFine
+      marks-back =
+          let w : rowUnits (levelIn base s i n) (ownIn (u .form .read) base s i n) - 1 ≡ endAt base s i - (i + 1) = omega (arith, row-length fits) in
+          let m : getD s (64 + i) 0 ≡ d = ap (λ (x : List ℕ). getD x 0 0) (sym (part-one (64 + i) s (omega arith)) ∙ r .mark) in
+          let q : part (64 + i + 1) (endAt base s i - (i + 1)) s ≡ replicate (endAt base s i - (i + 1)) 255 = rw w at (r .others) in
+          rw (eq-eqb (getD s (64 + i) 0) d m, q) (is-every 255 (endAt base s i - (i + 1)))
