@@ -7,3 +7,4 @@ pub mod Written
 pub mod Turns
 pub mod RowTests
 pub mod RowBytes
+pub mod Shapes
