@@ -8,3 +8,4 @@ pub mod Turns
 pub mod RowTests
 pub mod RowBytes
 pub mod Shapes
+pub mod Sound
