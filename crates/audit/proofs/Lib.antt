@@ -9,3 +9,5 @@ pub mod RowTests
 pub mod RowBytes
 pub mod Shapes
 pub mod Sound
+pub mod Headers
+pub mod Stores

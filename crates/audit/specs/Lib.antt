@@ -2,3 +2,4 @@ pub mod Tests
 pub mod Tally
 pub mod Fine
 pub mod Decides
+pub mod Whole
