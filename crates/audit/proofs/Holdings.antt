@@ -100,7 +100,7 @@ unfolding unitsTo
 ascended zero w b = refl
 ascended (suc m) w b = rw (value-first w, value-second w) at (b .0)
 
-values-yes : (m : ℕ) (w : List ℕ) → Octets w → m * 16 ≤ length w → valuesFine m w ≡ true
+pub values-yes : (m : ℕ) (w : List ℕ) → Octets w → m * 16 ≤ length w → valuesFine m w ≡ true
     → (each valueBytes (unitsTo valueOf m w) ≡ take (m * 16) w) × AscValues (unitsTo valueOf m w)
 unfolding valuesFine unitsTo
 values-yes zero w o h e = (refl, tt)
@@ -114,7 +114,7 @@ values-yes (suc m) w o h e =
       (ascends m w (and-left (upward m w) (valuesFine m (drop 16 w)) q) (r .1), r .1),
     )
 
-values-no : (m : ℕ) (w : List ℕ) → m * 16 ≤ length w → each valueBytes (unitsTo valueOf m w) ≡ take (m * 16) w → AscValues (unitsTo valueOf m w) → valuesFine m w ≡ true
+pub values-no : (m : ℕ) (w : List ℕ) → m * 16 ≤ length w → each valueBytes (unitsTo valueOf m w) ≡ take (m * 16) w → AscValues (unitsTo valueOf m w) → valuesFine m w ≡ true
 unfolding valuesFine unitsTo
 values-no zero w h e a = refl
 values-no (suc m) w h e a =
@@ -123,7 +123,7 @@ values-no (suc m) w h e a =
     let q = value-no w (omega arith) (p .0) in
     rw (q .0, q .1, ascended m w (a .0)) (values-no m (drop 16 w) (rw length-drop (omega arith)) (p .1) (a .1))
 
-pub held-values : Holding ℕ Subscriptions
+abbrev pub held-values : Holding ℕ Subscriptions
 held-values = record { form = values; Fit = AscValues; yes = values-yes; no = values-no }
 
 -- records: the marker with the three bytes behind it is read as one number
@@ -178,7 +178,7 @@ or-cases : (a b : Bool) → (a || b) ≡ true → (a ≡ true) ⊎ (b ≡ true)
 or-cases true b e = inl refl
 or-cases false b e = inr e
 
-records-yes : (m : ℕ) (w : List ℕ) → Octets w → m * 16 ≤ length w → recordsFine m w ≡ true
+pub records-yes : (m : ℕ) (w : List ℕ) → Octets w → m * 16 ≤ length w → recordsFine m w ≡ true
     → (each storedBytes (unitsTo storedOf m w) ≡ take (m * 16) w) × Single (unitsTo storedOf m w)
 unfolding recordsFine unitsTo
 records-yes zero w o h e = (refl, tt)
@@ -192,7 +192,7 @@ records-yes (suc zero) w o h e = (
 )
 records-yes (suc (suc m)) w o h e = absurd (true≢false (sym e))
 
-records-no : (m : ℕ) (w : List ℕ) → m * 16 ≤ length w → each storedBytes (unitsTo storedOf m w) ≡ take (m * 16) w → Single (unitsTo storedOf m w) → recordsFine m w ≡ true
+pub records-no : (m : ℕ) (w : List ℕ) → m * 16 ≤ length w → each storedBytes (unitsTo storedOf m w) ≡ take (m * 16) w → Single (unitsTo storedOf m w) → recordsFine m w ≡ true
 unfolding recordsFine unitsTo
 records-no zero w h e a = refl
 records-no (suc zero) w h e a =
@@ -205,5 +205,5 @@ records-no (suc zero) w h e a =
     (stored-marks (storedOf (take 16 w)))
 records-no (suc (suc m)) w h e a = absurd a
 
-pub held-records : Holding Stored Retained
+abbrev pub held-records : Holding Stored Retained
 held-records = record { form = records; Fit = Single; yes = records-yes; no = records-no }

@@ -1,18 +1,24 @@
 -- A forest is fine, node by node, exactly when it is well formed and what it holds stands under fine texts. Assumes nothing.
 use mathlib.Core.Path.{_≡_, refl, sym, ap, subst, _∙_}
 use Prim.Native.Nat.{ℕ, _+_, _-_, _≤_, _<_}
-use mathlib.Core.Bool.{Bool, true, false, true≢false}
+use mathlib.Core.Bool.{Bool, true, false, not, _&&_, _||_, true≢false}
 use mathlib.Core.List.{List, [], _∷_, _++_, map}
 use native.Mathlib.Omega.{arith}
+use lib.Dec.{eqb}
 use lib.ListN.{length}
-use Rattle.level.specs.Kinds.{isOnly}
+use borrow.Author.Tests.{not-true}
+use Rattle.utf8.specs.Utf8.{isUtf8}
+use Rattle.level.specs.Levels.{has}
+use Rattle.level.specs.Kinds.{isOnly, wild}
 use Rattle.held.specs.Order.{Level, Filter, levelLt}
 use Rattle.held.specs.Ascending.{All}
 use Rattle.held.specs.Forest.{Forest, leaf, fork, held, under, Over, Rows, HashEnds}
 use Rattle.held.specs.Edit.{Owns, Full, HashLast}
 use Rattle.held.proofs.Edits.{over-mono}
 use Rattle.held.proofs.Entries.{all-map, all-with}
+use Rattle.held.proofs.Orders.{and-right}
 use Rattle.region.specs.declared.Kind.{Kind}
+use Rattle.region.specs.declared.Kind.the-variants.{Retained}
 use Rattle.audit.specs.Tests.{levelFine}
 use Rattle.audit.specs.Fine.{TextFine, Follows, NodeFine, Fine}
 
@@ -37,6 +43,22 @@ module _ {E : Type 0} (P : E → Type 0) where
   all-each : ((e : E) → P e) → (l : List E) → All P l
   all-each h [] = tt
   all-each h (e ∷ l) = (h e, all-each h l)
+
+-- a name has no '#'
+tame-hash : (l : Level) → levelFine Retained l ≡ true → isOnly 35 l ≡ false
+unfolding levelFine
+tame-hash l e =
+    go l (not-true (wild l) (and-right (not (has 47 l)) (not (wild l)) (and-right (not (has 0 l)) (not (has 47 l) && not (wild l)) (and-right (isUtf8 l) (not (has 0 l) && (not (has 47 l) && not (wild l))) e))))
+  where
+    go : (l : Level) → wild l ≡ false → isOnly 35 l ≡ false
+    go [] w = refl
+    go (x ∷ []) w = hash (eqb x 43) (eqb x 35) w
+      where
+        hash : (a b : Bool) → ((a || b) || false) ≡ false → b ≡ false
+        hash true b w = absurd (true≢false w)
+        hash false true w = absurd (true≢false w)
+        hash false false w = refl
+    go (x ∷ y ∷ l) w = refl
 
 -- one that has a property
 record Some {E : Type 0} (P : E → Type 0) : Type 0 where
@@ -184,3 +206,16 @@ module _ {X : Type 0} where
         start : (v : List X) → All (λ (x : X). t ∷ [] ≡ [] ∷ [] → ⊥) v → t ≡ [] → v ≡ []
         start [] h q = refl
         start (x ∷ v) h q = absurd (h .0 (rw q))
+
+  -- so the forest of names has no '#' with a child
+  pub names-end : (d room : ℕ) (F : Forest X) → Full F → All (λ (e : Filter × X). TextFine Retained d room (e .0)) (held F) → HashEnds F
+  names-end d room leaf f a = tt
+  names-end d room (fork t v k n) f a =
+      let w = held-some (λ (x : Filter × X). TextFine Retained d room (x .0)) t k v n f a in
+      (
+        (λ q. absurd (true≢false (sym q ∙ tame-hash t (w .has .has .1)))),
+        names-end (d + 1) (room - (length t + 1)) k (f .1)
+            (all-with (λ (x : Filter × X). TextFine Retained d room (t ∷ x .0)) (λ (x : Filter × X). TextFine Retained (d + 1) (room - (length t + 1)) (x .0)) (λ x q. q .3) (held k)
+            (held-kids (λ (x : Filter × X). TextFine Retained d room (x .0)) t v k n a)),
+        names-end d room n (f .2) (held-next (λ (x : Filter × X). TextFine Retained d room (x .0)) t v k n a),
+      )
