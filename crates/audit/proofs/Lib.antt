@@ -11,3 +11,5 @@ pub mod Shapes
 pub mod Sound
 pub mod Headers
 pub mod Stores
+pub mod UnitLaws
+pub mod LevelLaws

@@ -18,10 +18,7 @@ use Rattle.region.specs.Layout.{levelUnits, rowUnits, headBytes, levelBytes}
 use Rattle.region.specs.Decode.{unitsTo}
 use Rattle.region.specs.declared.Kind.{Kind}
 use Rattle.forest.specs.Places.{unitAt, lenAt, ownAt, belowAt, levelUnitsAt, rowEnd, kidsEnd, levelIn, ownIn}
-use Rattle.audit.specs.Tests.{every, levelFine, ownFine, heldAt, endAt, pastAt, shapeFine, marksFine, fillFine, orderFine, rowFine, nodeFine}
-use Rattle.audit.proofs.Octets.{Octets, octets-drop, octets-part, bytes-part, part-number, part-both, part-front, part-back, every-is, is-every, units-length, units-take}
-use Rattle.audit.proofs.Holdings.{Holding}
-use Rattle.audit.proofs.Written.{RowHere}
+use Rattle.audit.specs.Tests.{every, levelFine, ownFine, heldAt, endAt, pastAt, shapeFine, marksFine, fillFine, orderFine, writtenFine, placedFine, nodeFine}
 
 -- the tests of a node, one by one
 pub record Tested (k : Kind) (base : ℕ) (s : List ℕ) (d room i n : ℕ) : Type 0 where
@@ -37,39 +34,33 @@ pub record Tested (k : Kind) (base : ℕ) (s : List ℕ) (d room i n : ℕ) : Ty
   pub order : orderFine base s i n ≡ true
 
 module _ (k : Kind) (base : ℕ) (s : List ℕ) (d room i n : ℕ) where
-  parts : (a b c e f g h j l m : Bool) → (a && (b && (c && (e && (f && (g && (h && (j && (l && m))))))))) ≡ true
-      → (a ≡ true) × (b ≡ true) × (c ≡ true) × (e ≡ true) × (f ≡ true) × (g ≡ true) × (h ≡ true) × (j ≡ true) × (l ≡ true) × (m ≡ true)
-  parts true true true true true true true true true m q = (refl, refl, refl, refl, refl, refl, refl, refl, refl, q)
-  parts true true true true true true true true false m q = absurd (true≢false (sym q))
-  parts true true true true true true true false l m q = absurd (true≢false (sym q))
-  parts true true true true true true false j l m q = absurd (true≢false (sym q))
-  parts true true true true true false h j l m q = absurd (true≢false (sym q))
-  parts true true true true false g h j l m q = absurd (true≢false (sym q))
-  parts true true true false f g h j l m q = absurd (true≢false (sym q))
-  parts true true false e f g h j l m q = absurd (true≢false (sym q))
-  parts true false c e f g h j l m q = absurd (true≢false (sym q))
-  parts false b c e f g h j l m q = absurd (true≢false (sym q))
+  three : (a b c : Bool) → (a && (b && c)) ≡ true → (a ≡ true) × (b ≡ true) × (c ≡ true)
+  three true true c q = (refl, refl, q)
+  three true false c q = absurd (true≢false (sym q))
+  three false b c q = absurd (true≢false (sym q))
 
   pub tested : nodeFine k base s d room i n ≡ true → Tested k base s d room i n
-  unfolding nodeFine rowFine
+  unfolding nodeFine writtenFine placedFine
   tested e =
-      let p = parts (leb (pastAt base s i) n) (leb d 128) (ltb (lenAt base s i) room) (eqb (be (part (unitAt base i + 6) 2 s)) 0) (marksFine s d i (endAt base s i)) (fillFine base s i)
-          (levelFine k (levelIn base s i n)) (ownFine k (ownAt base s i) (drop (unitAt base (heldAt base s i)) s)) (shapeFine d (levelIn base s i n) (ownAt base s i) (belowAt base s i)) (orderFine base s i n) e in
+      let p = three (leb (pastAt base s i) n) (leb d 128) (ltb (lenAt base s i) room && (writtenFine k base s d i && placedFine k base s d i n)) e in
+      let q = three (ltb (lenAt base s i) room) (writtenFine k base s d i) (placedFine k base s d i n) (p .2) in
+      let w = three (eqb (be (part (unitAt base i + 6) 2 s)) 0) (marksFine s d i (endAt base s i)) (fillFine base s i && ownFine k (ownAt base s i) (drop (unitAt base (heldAt base s i)) s)) (q .1) in
+      let r = three (levelFine k (levelIn base s i n)) (shapeFine d (levelIn base s i n) (ownAt base s i) (belowAt base s i)) (orderFine base s i n) (q .2) in
       record {
         past = leb-true (pastAt base s i) n (p .0);
         depth = leb-true d 128 (p .1);
-        wide = ltb-true (lenAt base s i) room (p .2);
-        spare = eqb-true (be (part (unitAt base i + 6) 2 s)) 0 (p .3);
-        marks = p .4;
-        fill = p .5;
-        level = p .6;
-        holds = p .7;
-        shape = p .8;
-        order = p .9;
+        wide = ltb-true (lenAt base s i) room (q .0);
+        spare = eqb-true (be (part (unitAt base i + 6) 2 s)) 0 (w .0);
+        marks = w .1;
+        fill = and-left (fillFine base s i) (ownFine k (ownAt base s i) (drop (unitAt base (heldAt base s i)) s)) (w .2);
+        level = r .0;
+        holds = and-right (fillFine base s i) (ownFine k (ownAt base s i) (drop (unitAt base (heldAt base s i)) s)) (w .2);
+        shape = r .1;
+        order = r .2;
       }
 
   pub passed : Tested k base s d room i n → nodeFine k base s d room i n ≡ true
-  unfolding nodeFine rowFine
+  unfolding nodeFine writtenFine placedFine
   passed t =
       rw (le-leb (pastAt base s i) n (t .past), le-leb d 128 (t .depth), lt-ltb (lenAt base s i) room (t .wide), eq-eqb (be (part (unitAt base i + 6) 2 s)) 0 (t .spare),
       t .marks, t .fill, t .level, t .holds, t .shape, t .order)

@@ -71,17 +71,19 @@ fillFine base s i = every 0 (part (unitAt base i + 8 + lenAt base s i) (levelUni
 unfoldable pub orderFine : (base : ℕ) → List ℕ → (i n : ℕ) → Bool
 orderFine base s i n = not (ltb (pastAt base s i) n) || levelLt (levelIn base s i n) (levelIn base s (pastAt base s i) n)
 
--- the row at unit i of those up to n, where what is below a node must end by n
-unfoldable pub rowFine : Kind → (base : ℕ) → List ℕ → (d i n : ℕ) → Bool
-rowFine k base s d i n =
+-- the row at unit i is written as it is read
+unfoldable pub writtenFine : Kind → (base : ℕ) → List ℕ → (d i : ℕ) → Bool
+writtenFine k base s d i =
     eqb (be (part (unitAt base i + 6) 2 s)) 0
     && (marksFine s d i (endAt base s i)
     && (fillFine base s i
-    && (levelFine k (levelIn base s i n)
-    && (ownFine k (ownAt base s i) (drop (unitAt base (heldAt base s i)) s)
-    && (shapeFine d (levelIn base s i n) (ownAt base s i) (belowAt base s i)
-    && orderFine base s i n)))))
+    && ownFine k (ownAt base s i) (drop (unitAt base (heldAt base s i)) s)))
+
+-- and its node is one that may stand there, where the row of its siblings ends at unit n
+unfoldable pub placedFine : Kind → (base : ℕ) → List ℕ → (d i n : ℕ) → Bool
+placedFine k base s d i n =
+    levelFine k (levelIn base s i n) && (shapeFine d (levelIn base s i n) (ownAt base s i) (belowAt base s i) && orderFine base s i n)
 
 -- all of that, with the depth and the bytes that a text has left
 unfoldable pub nodeFine : Kind → (base : ℕ) → List ℕ → (d room i n : ℕ) → Bool
-nodeFine k base s d room i n = leb (pastAt base s i) n && (leb d 128 && (ltb (lenAt base s i) room && rowFine k base s d i n))
+nodeFine k base s d room i n = leb (pastAt base s i) n && (leb d 128 && (ltb (lenAt base s i) room && (writtenFine k base s d i && placedFine k base s d i n)))

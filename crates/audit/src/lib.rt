@@ -1,4 +1,10 @@
-// The test of a region: whether it is a store.
+// The test of a region: whether it is a store. One pass over its units decides it.
+mod levels;
+mod rows;
+mod units;
+mod whole;
+
+// pub use whole::is_store;
 
 // What the header promises and the rows passed have not had: nodes, pairs and cells.
 pub struct Left {
@@ -11,4 +17,11 @@ pub struct Left {
 pub enum Tally {
     Sound(Left),
     Unsound,
+}
+
+// The numbers of a row's head: the length of its level, how many it holds, the units below it.
+pub struct Head {
+    pub len: usize,
+    pub own: usize,
+    pub below: usize,
 }

@@ -1,0 +1,1 @@
+// The rows of units, one after another.
