@@ -13,3 +13,4 @@ pub mod Headers
 pub mod Stores
 pub mod UnitLaws
 pub mod LevelLaws
+pub mod RowLaws

@@ -16,7 +16,7 @@ use Rattle.held.proofs.Orders.{and-left, and-right}
 use Rattle.region.specs.Layout.{unitsF}
 use Rattle.forest.specs.Places.{unitAt, forestIn, levelIn, ownIn, rowEnd, kidsEnd}
 use Rattle.forest.proofs.FirstRow.{forest-none, forest-some}
-use Rattle.audit.specs.Tests.{pastAt, shapeFine, orderFine}
+use Rattle.audit.specs.Tests.{pastAt, shapeFine, follows, orderFine}
 use Rattle.audit.specs.Fine.{Follows}
 
 module _ {X : Type 0} where
@@ -109,7 +109,7 @@ module _ {X : Type 0} where
 -- what follows a node in its row
 module _ {X : Type 0} (read : List ℕ → X) (base : ℕ) (s : List ℕ) (i n : ℕ) (within : unitAt base n ≤ length s) where
   pub order-yes : orderFine base s i n ≡ true → Follows (levelIn base s i n) (forestIn read base s (pastAt base s i) n)
-  unfolding orderFine
+  unfolding follows
   order-yes e =
       ⊎-elim
       (λ (h : pastAt base s i < n).
@@ -119,7 +119,7 @@ module _ {X : Type 0} (read : List ℕ → X) (base : ℕ) (s : List ℕ) (i n :
       (lt-or-ge (pastAt base s i) n)
 
   pub order-no : Follows (levelIn base s i n) (forestIn read base s (pastAt base s i) n) → orderFine base s i n ≡ true
-  unfolding orderFine
+  unfolding follows
   order-no f =
       ⊎-elim
       (λ (h : pastAt base s i < n).

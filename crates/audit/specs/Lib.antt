@@ -3,3 +3,4 @@ pub mod Tally
 pub mod Fine
 pub mod Decides
 pub mod Whole
+pub mod Heads

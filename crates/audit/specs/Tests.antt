@@ -12,6 +12,8 @@ use Rattle.lent.specs.Parts.{part}
 use Rattle.held.specs.Order.{Level, levelLt}
 use Rattle.region.specs.declared.Kind.{Kind}
 use Rattle.region.specs.declared.Kind.the-variants.{Subscriptions, Retained}
+use Rattle.forest.specs.declared.Order.{Order}
+use Rattle.forest.specs.declared.Order.the-variants.{Less, Equal, Greater}
 use Rattle.forest.specs.Places.{unitAt, lenAt, ownAt, belowAt, levelUnitsAt, levelIn}
 
 -- every byte is b
@@ -56,9 +58,13 @@ endAt base s i = heldAt base s i + ownAt base s i
 abbrev pub pastAt : (base : ℕ) → List ℕ → ℕ → ℕ
 pastAt base s i = endAt base s i + belowAt base s i
 
--- a node holds something or has a child; a blank first level holds nothing, for it would be the empty text; '#' has no child
+-- a blank first level holds nothing: it would be the empty text
+abbrev pub mayHold : (d : ℕ) → Level → Bool
+mayHold d l = not (eqb d 1 && blank l)
+
+-- a node holds something or has a child; '#' has no child
 unfoldable pub shapeFine : (d : ℕ) → Level → (own below : ℕ) → Bool
-shapeFine d l own below = cond (eqb own 0) (not (eqb below 0)) (not (eqb d 1 && blank l)) && (not (isOnly 35 l) || eqb below 0)
+shapeFine d l own below = cond (eqb own 0) (not (eqb below 0)) (mayHold d l) && (not (isOnly 35 l) || eqb below 0)
 
 -- the marks of a row, and what fills its level's last unit
 unfoldable pub marksFine : List ℕ → (d i end : ℕ) → Bool
@@ -67,9 +73,17 @@ marksFine s d i end = eqb (getD s (64 + i) 0) d && every 255 (part (64 + i + 1) 
 unfoldable pub fillFine : (base : ℕ) → List ℕ → ℕ → Bool
 fillFine base s i = every 0 (part (unitAt base i + 8 + lenAt base s i) (levelUnitsAt base s i * 16 - 8 - lenAt base s i) s)
 
--- the next node of the row has a later level
-unfoldable pub orderFine : (base : ℕ) → List ℕ → (i n : ℕ) → Bool
-orderFine base s i n = not (ltb (pastAt base s i) n) || levelLt (levelIn base s i n) (levelIn base s (pastAt base s i) n)
+-- a level comes before that of the next node of its row, which begins at unit `past` if there is one
+abbrev pub less : Order → Bool
+less Less = true
+less Equal = false
+less Greater = false
+
+unfoldable pub follows : (base : ℕ) → List ℕ → Level → (past n : ℕ) → Bool
+follows base s l past n = not (ltb past n) || levelLt l (levelIn base s past n)
+
+abbrev pub orderFine : (base : ℕ) → List ℕ → (i n : ℕ) → Bool
+orderFine base s i n = follows base s (levelIn base s i n) (pastAt base s i) n
 
 -- the row at unit i is written as it is read
 unfoldable pub writtenFine : Kind → (base : ℕ) → List ℕ → (d i : ℕ) → Bool
