@@ -47,7 +47,7 @@ module _ (k : Kind) (s : List ℕ) where
   unfolding headerFine usedFine
   header-yes e =
       let p = parts (inRange (roomAt s)) (leb (neededBytes (roomAt s)) (length s)) (eqb (be (part 0 4 s)) (markOf k)) (leb (leftAt s .nodes) (roomAt s .nodes)) (leb (leftAt s .pairs) (roomAt s .pairs))
-          (leb (leftAt s .cells) (roomAt s .cells)) (leb (usedUnits s) (unitRoom (roomAt s))) e in
+      (leb (leftAt s .cells) (roomAt s .cells)) (leb (usedUnits s) (unitRoom (roomAt s))) e in
       record {
         range = p .0;
         long = leb-true (neededBytes (roomAt s)) (length s) (p .1);
@@ -61,8 +61,15 @@ module _ (k : Kind) (s : List ℕ) where
   pub header-no : HeaderFine k s → headerFine k s ≡ true
   unfolding headerFine usedFine
   header-no h =
-      rw (h .range, le-leb (neededBytes (roomAt s)) (length s) (h .long), eq-eqb (be (part 0 4 s)) (markOf k) (h .mark), le-leb (leftAt s .nodes) (roomAt s .nodes) (h .nodes), le-leb (leftAt s .pairs) (roomAt s .pairs) (h .pairs),
-      le-leb (leftAt s .cells) (roomAt s .cells) (h .cells), le-leb (usedUnits s) (unitRoom (roomAt s)) (h .units))
+      rw (
+        h .range,
+        le-leb (neededBytes (roomAt s)) (length s) (h .long),
+        eq-eqb (be (part 0 4 s)) (markOf k) (h .mark),
+        le-leb (leftAt s .nodes) (roomAt s .nodes) (h .nodes),
+        le-leb (leftAt s .pairs) (roomAt s .pairs) (h .pairs),
+        le-leb (leftAt s .cells) (roomAt s .cells) (h .cells),
+        le-leb (usedUnits s) (unitRoom (roomAt s)) (h .units),
+      )
 
 -- the mark, the kind and the shape
 front-of : (k : Kind) → bytes 4 (markOf k) ≡ 0x43 ∷ 0x4A ∷ kindByte k ∷ 1 ∷ []

@@ -14,3 +14,4 @@ pub mod Stores
 pub mod UnitLaws
 pub mod LevelLaws
 pub mod RowLaws
+pub mod Passes

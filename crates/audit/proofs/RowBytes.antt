@@ -79,6 +79,7 @@ module _ {X : Type 0} {kind : Kind} (u : Holding X kind) (base : ℕ) (s : List 
       where
         four : unitAt base i + 2 + 2 ≡ unitAt base i + 4
         four = omega arith
+
         six : unitAt base i + 4 + 2 ≡ unitAt base i + 6
         six = omega arith
 
@@ -98,8 +99,7 @@ module _ {X : Type 0} {kind : Kind} (u : Holding X kind) (base : ℕ) (s : List 
         → (part (unitAt base (i + levelUnits (levelIn base s i n))) (length (ownIn (u .form .read) base s i n) * 16) s ≡ each (u .form .write) (ownIn (u .form .read) base s i n))
         × u .Fit (ownIn (u .form .read) base s i n)
     holds-yes e =
-        let r = u .yes (ownAt base s i) (drop (unitAt base (heldAt base s i)) s) (octets-drop (unitAt base (heldAt base s i)) s o) room-held e in
-        (
+        let r = u .yes (ownAt base s i) (drop (unitAt base (heldAt base s i)) s) (octets-drop (unitAt base (heldAt base s i)) s o) room-held e in (
           rw (level-length, own-length, own-is) (sym take-held ∙ sym (r .0)),
           rw own-is (r .1),
         )
@@ -126,8 +126,7 @@ module _ {X : Type 0} {kind : Kind} (u : Holding X kind) (base : ℕ) (s : List 
         → ownFine kind (ownAt base s i) (drop (unitAt base (heldAt base s i)) s) ≡ true
         → RowHere (u .form) base s d i (levelIn base s i n) (ownIn (u .form .read) base s i n) (belowAt base s i) × u .Fit (ownIn (u .form .read) base s i n)
     row-here d z m f e =
-        let r = holds-yes e in
-        (
+        let r = holds-yes e in (
           record { head = head-yes z; text = text-yes f; holds = r .0; mark = mark-yes d m; others = others-yes d m },
           r .1,
         )
@@ -143,8 +142,7 @@ module _ {X : Type 0} {kind : Kind} (u : Holding X kind) (base : ℕ) (s : List 
         let b = part-back (unitAt base i + 2) 2 4 6 s v (bytes 2 below ++ bytes 2 0) refl (length-bytes 2 (length (ownIn (u .form .read) base s i n))) a in
         let four : unitAt base i + 2 + 2 ≡ unitAt base i + 4 = omega arith in
         let six : unitAt base i + 4 + 2 ≡ unitAt base i + 6 = omega arith in
-        let c : part (unitAt base i + 4) 4 s ≡ bytes 2 below ++ bytes 2 0 = rw four at b in
-        (
+        let c : part (unitAt base i + 4) 4 s ≡ bytes 2 below ++ bytes 2 0 = rw four at b in (
           part-front (unitAt base i) 2 6 8 s l (v ++ (bytes 2 below ++ bytes 2 0)) refl (length-bytes 2 (length (levelIn base s i n))) (r .head),
           part-front (unitAt base i + 4) 2 2 4 s (bytes 2 below) (bytes 2 0) refl (length-bytes 2 below) c,
           rw six at (part-back (unitAt base i + 4) 2 2 4 s (bytes 2 below) (bytes 2 0) refl (length-bytes 2 below) c),

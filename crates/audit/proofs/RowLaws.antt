@@ -1,12 +1,12 @@
 -- The tests of a row, as the code makes them. Assumes nothing.
 use mathlib.Core.Path.{_≡_, refl, sym, ap, subst, _∙_}
-use Prim.Native.Nat.{ℕ, suc, _+_, _-_, _*_, _/_, _≤_, _<_}
+use Prim.Native.Nat.{ℕ, suc, _+_, _-_, _*_, _/_, _%_, _≤_, _<_}
 use mathlib.Core.Bool.{Bool, true, false, not, cond, _&&_, _||_, and-true}
 use mathlib.Core.List.{List, [], _∷_}
 use native.Mathlib.Omega.{arith}
 use lib.Dec.{eqb, ltb}
 use lib.ListN.{length, drop, getD}
-use borrow.Author.Tests.{eq-eqb, ne-eqb, lt-ltb, le-ltb, not-false, not-true}
+use borrow.Author.Tests.{eq-eqb, ne-eqb, lt-ltb, le-ltb, le-leb, lt-leb, not-false, not-true}
 use Rattle.level.specs.Kinds.{blank, isOnly, same}
 use Rattle.level.proofs.KindLaws.{blank-none, blank-some}
 use Rattle.lent.specs.Numbers.{be}
@@ -14,6 +14,7 @@ use Rattle.lent.specs.Parts.{part}
 use Rattle.lent.specs.Total.{read}
 use Rattle.lent.proofs.Anywhere.{read-in}
 use Rattle.held.specs.Order.{Level, levelLt}
+use Rattle.held.specs.Room.{levelCells}
 use Rattle.held.proofs.Orders.{level-order, eq-lower}
 use Rattle.region.specs.declared.Kind.{Kind}
 use Rattle.forest.specs.declared.Order.{Order}
@@ -21,6 +22,10 @@ use Rattle.forest.specs.declared.Order.the-variants.{Less, Equal, Greater}
 use Rattle.forest.specs.Compare.{orderOf}
 use Rattle.forest.specs.Places.{unitAt, lenAt, ownAt, belowAt, levelIn}
 use Rattle.audit.specs.declared.Head.{Head}
+use Rattle.audit.specs.declared.Left.{Left}
+use Rattle.audit.specs.declared.Tally.{Tally}
+use Rattle.audit.specs.declared.Tally.the-variants.{Sound, Unsound}
+use Rattle.audit.specs.Tally.{taken}
 use Rattle.audit.specs.Heads.{HeadAt}
 use Rattle.audit.specs.Tests.{every, levelFine, ownFine, heldAt, endAt, pastAt, mayHold, shapeFine, less, follows, orderFine, marksFine, fillFine, writtenFine, placedFine}
 
@@ -145,3 +150,56 @@ module _ (k : Kind) (base : ℕ) (s : List ℕ) (d i n : ℕ) {h : Head} (e : He
       pub written-last : not f ≡ false → {g : Bool} → g ≡ ownFine k (h .own) (drop (base + (i + (h .len + 23) / 16) * 16) s) → g ≡ writtenFine k base s d i
       unfolding writtenFine
       written-last x eg = rw (← spare-is, eq-eqb a 0 za, ← marks-are, not-false m zm, ← fill-is, not-false f x) (eg ∙ rw (e .len-is, e .own-is))
+
+-- a node that may stand where it stands
+module _ (k : Kind) (base : ℕ) (s : List ℕ) (d i n : ℕ) {h : Head} (e : HeadAt base s i h) {l : Level} (el : l ≡ levelIn base s i n) {t : Bool} (et : t ≡ levelFine k l) where
+  level-is : t ≡ levelFine k (levelIn base s i n)
+  level-is = et ∙ ap (levelFine k) el
+
+  pub placed-level : not t ≡ true → false ≡ placedFine k base s d i n
+  unfolding placedFine
+  placed-level x = rw (← level-is, not-true t x)
+
+  module _ (zt : not t ≡ false) {m : Bool} (em : m ≡ shapeFine d l (h .own) (h .below)) where
+    shape-is : m ≡ shapeFine d (levelIn base s i n) (ownAt base s i) (belowAt base s i)
+    shape-is = em ∙ rw (el, e .own-is, e .below-is)
+
+    pub placed-shape : not m ≡ true → false ≡ placedFine k base s d i n
+    unfolding placedFine
+    placed-shape x = rw (← level-is, not-false t zt, ← shape-is, not-true m x)
+
+    pub placed-last : not m ≡ false → {o : Bool} → o ≡ follows base s l (i + (h .len + 23) / 16 + h .own + h .below) n → o ≡ placedFine k base s d i n
+    unfolding placedFine
+    placed-last x eo = rw (← level-is, not-false t zt, ← shape-is, not-false m x) (eo ∙ rw (el, e .len-is, e .own-is, e .below-is))
+
+-- the cells of a level
+module _ (l : Level) {p : Bool} (ep : p ≡ isOnly 43 l) where
+  pub cells-plus : p ≡ true → 0 ≡ levelCells l
+  cells-plus h = rw (sym ep ∙ h)
+
+  module _ (hp : p ≡ false) {q : Bool} (eq : q ≡ isOnly 35 l) where
+    pub cells-hash : q ≡ true → 0 ≡ levelCells l
+    cells-hash h = rw (sym ep ∙ hp, sym eq ∙ h)
+
+    pub cells-text : q ≡ false → length l / 16 + (length l % 16 + 15) / 16 ≡ levelCells l
+    cells-text h = rw (sym ep ∙ hp, sym eq ∙ h) (omega arith)
+
+-- what a node takes
+module _ (a : Left) (l : Level) (own : ℕ) where
+  pub take-nodes : a .nodes < 1 → Unsound ≡ taken a l own
+  unfolding taken
+  take-nodes h = rw (lt-leb 1 (a .nodes) h)
+
+  module _ (hn : 1 ≤ a .nodes) where
+    pub take-pairs : a .pairs < own → Unsound ≡ taken a l own
+    unfolding taken
+    take-pairs h = rw (le-leb 1 (a .nodes) hn, lt-leb own (a .pairs) h)
+
+    module _ (hp : own ≤ a .pairs) {c : ℕ} (ec : c ≡ levelCells l) where
+      pub take-cells : a .cells < c → Unsound ≡ taken a l own
+      unfolding taken
+      take-cells h = rw (le-leb 1 (a .nodes) hn, le-leb own (a .pairs) hp, lt-leb (levelCells l) (a .cells) (rw ec at h))
+
+      pub take-all : c ≤ a .cells → Sound (record { nodes = a .nodes - 1; pairs = a .pairs - own; cells = a .cells - c }) ≡ taken a l own
+      unfolding taken
+      take-all h = rw (le-leb 1 (a .nodes) hn, le-leb own (a .pairs) hp, le-leb (levelCells l) (a .cells) (rw ec at h), ec)

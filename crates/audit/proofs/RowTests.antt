@@ -62,5 +62,15 @@ module _ (k : Kind) (base : ℕ) (s : List ℕ) (d room i n : ℕ) where
   pub passed : Tested k base s d room i n → nodeFine k base s d room i n ≡ true
   unfolding nodeFine writtenFine placedFine
   passed t =
-      rw (le-leb (pastAt base s i) n (t .past), le-leb d 128 (t .depth), lt-ltb (lenAt base s i) room (t .wide), eq-eqb (be (part (unitAt base i + 6) 2 s)) 0 (t .spare),
-      t .marks, t .fill, t .level, t .holds, t .shape, t .order)
+      rw (
+        le-leb (pastAt base s i) n (t .past),
+        le-leb d 128 (t .depth),
+        lt-ltb (lenAt base s i) room (t .wide),
+        eq-eqb (be (part (unitAt base i + 6) 2 s)) 0 (t .spare),
+        t .marks,
+        t .fill,
+        t .level,
+        t .holds,
+        t .shape,
+        t .order,
+      )

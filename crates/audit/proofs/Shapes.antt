@@ -71,11 +71,13 @@ module _ {X : Type 0} where
           where
             never : x ∷ v ≡ [] → ⊥
             never z = let y : _≡_ {A = ℕ} 0 1 = cc in omega arith
+
             is-blank : (l : Level) → blank l ≡ true → l ≡ []
             is-blank [] q = refl
             is-blank (y ∷ l) q = absurd (true≢false (sym q))
         first x v true false p q g = refl
         first x v false b p q g = refl
+
         go : (v : List X) (k : Forest X) → (v ≡ [] → k ≡ leaf → ⊥) → (d ≡ 1 → l ≡ [] → v ≡ []) → cond (eqb (length v) 0) (not (eqb (unitsF k) 0)) (not (eqb d 1 && blank l)) ≡ true
         go [] leaf f g = absurd (f refl refl)
         go [] (fork t w j m) f g =
@@ -113,9 +115,9 @@ module _ {X : Type 0} (read : List ℕ → X) (base : ℕ) (s : List ℕ) (i n :
   order-yes e =
       ⊎-elim
       (λ (h : pastAt base s i < n).
-          subst (λ (F : Forest X). Follows (levelIn base s i n) F) (sym (forest-some read base s (pastAt base s i) n h within)) (rw (lt-ltb (pastAt base s i) n h) at e))
+      subst (λ (F : Forest X). Follows (levelIn base s i n) F) (sym (forest-some read base s (pastAt base s i) n h within)) (rw (lt-ltb (pastAt base s i) n h) at e))
       (λ (h : n ≤ pastAt base s i).
-          subst (λ (F : Forest X). Follows (levelIn base s i n) F) (sym (forest-none read base s (pastAt base s i) n h)) tt)
+      subst (λ (F : Forest X). Follows (levelIn base s i n) F) (sym (forest-none read base s (pastAt base s i) n h)) tt)
       (lt-or-ge (pastAt base s i) n)
 
   pub order-no : Follows (levelIn base s i n) (forestIn read base s (pastAt base s i) n) → orderFine base s i n ≡ true
@@ -123,6 +125,6 @@ module _ {X : Type 0} (read : List ℕ → X) (base : ℕ) (s : List ℕ) (i n :
   order-no f =
       ⊎-elim
       (λ (h : pastAt base s i < n).
-          rw (lt-ltb (pastAt base s i) n h) (subst (λ (F : Forest X). Follows (levelIn base s i n) F) (forest-some read base s (pastAt base s i) n h within) f))
+      rw (lt-ltb (pastAt base s i) n h) (subst (λ (F : Forest X). Follows (levelIn base s i n) F) (forest-some read base s (pastAt base s i) n h within) f))
       (λ (h : n ≤ pastAt base s i). rw (le-ltb (pastAt base s i) n h))
       (lt-or-ge (pastAt base s i) n)

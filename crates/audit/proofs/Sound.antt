@@ -229,10 +229,12 @@ module _ {X : Type 0} {kind : Kind} (u : Holding X kind) (base : ℕ) (s : List 
           fork-sound d room i n h within marked t k
           (ih (d + 1) (room - (lenAt base s i + 1)) (rowEnd base s i n) (kidsEnd base s i n) c g (omega (arith, ee, ep)) (omega (arith, ee, ep)) (omega (arith, ep)) (omega (arith, ep)) q)
           (ih d room (kidsEnd base s i n) n g b (omega (arith, ep)) (omega (arith, ep)) within marked e)
+
       took-all : Tested kind base s d room i n → (x : Tally) → taken a (levelIn base s i n) (ownAt base s i) ≡ x → onSound x (λ c. onSound (below d room i n c) (behind d room i n)) ≡ Sound b
           → It d room i n a b (fork (L d room i n h within marked) (W d room i n h within marked) (K d room i n h within marked) (N d room i n h within marked))
       took-all t Unsound q e = absurd (unsound-not b e)
       took-all t (Sound c) q e = kids c t (took a c (levelIn base s i n) (ownAt base s i) q) (below d room i n c) refl e
+
       node : (t : Bool) → nodeFine kind base s d room i n ≡ t
           → cond t (onSound (taken a (levelIn base s i n) (ownAt base s i)) (λ c. onSound (below d room i n c) (behind d room i n))) Unsound ≡ Sound b
           → It d room i n a b (fork (L d room i n h within marked) (W d room i n h within marked) (K d room i n h within marked) (N d room i n h within marked))

@@ -165,11 +165,10 @@ module _ {X : Type 0} {kind : Kind} (u : Holding X kind) (s : List ℕ) (o : Oct
 
   pub texts-no : All (λ (e : Filter × X). Accepts (rulesOf kind) (e .0)) (held F)
       → All (λ (e : Filter × X). TextFine kind 1 65536 (e .0)) (held F) × All (λ (e : Filter × X). e .0 ≡ [] ∷ [] → ⊥) (held F)
-  texts-no a =
-      (
-        all-with (λ (e : Filter × X). Accepts (rulesOf kind) (e .0)) (λ (e : Filter × X). TextFine kind 1 65536 (e .0)) (λ e p. levels-text kind 1 65536 (e .0) (accepted-text kind (e .0) p .0)) (held F) a,
-        all-with (λ (e : Filter × X). Accepts (rulesOf kind) (e .0)) (λ (e : Filter × X). e .0 ≡ [] ∷ [] → ⊥) (λ e p. accepted-text kind (e .0) p .1) (held F) a,
-      )
+  texts-no a = (
+    all-with (λ (e : Filter × X). Accepts (rulesOf kind) (e .0)) (λ (e : Filter × X). TextFine kind 1 65536 (e .0)) (λ e p. levels-text kind 1 65536 (e .0) (accepted-text kind (e .0) p .0)) (held F) a,
+    all-with (λ (e : Filter × X). Accepts (rulesOf kind) (e .0)) (λ (e : Filter × X). e .0 ≡ [] ∷ [] → ⊥) (λ e p. accepted-text kind (e .0) p .1) (held F) a,
+  )
 
 -- the two kinds
 module _ (s : List ℕ) (o : Octets s) where

@@ -211,8 +211,7 @@ module _ {X : Type 0} where
   pub names-end : (d room : ℕ) (F : Forest X) → Full F → All (λ (e : Filter × X). TextFine Retained d room (e .0)) (held F) → HashEnds F
   names-end d room leaf f a = tt
   names-end d room (fork t v k n) f a =
-      let w = held-some (λ (x : Filter × X). TextFine Retained d room (x .0)) t k v n f a in
-      (
+      let w = held-some (λ (x : Filter × X). TextFine Retained d room (x .0)) t k v n f a in (
         (λ q. absurd (true≢false (sym q ∙ tame-hash t (w .has .has .1)))),
         names-end (d + 1) (room - (length t + 1)) k (f .1)
             (all-with (λ (x : Filter × X). TextFine Retained d room (t ∷ x .0)) (λ (x : Filter × X). TextFine Retained (d + 1) (room - (length t + 1)) (x .0)) (λ x q. q .3) (held k)

@@ -51,8 +51,7 @@ module _ {X : Type 0} (u : Form X) (base : ℕ) (s : List ℕ) where
         let z : unitAt base i + 8 + (levelUnits l * 16 - 8) ≡ unitAt base (i + levelUnits l) = omega arith in
         let t : part (unitAt base i + 8) (levelUnits l * 16 - 8 + length v * 16) s ≡ levelBytes l ++ each (u .write) v =
         part-back (unitAt base i) 8 (levelUnits l * 16 - 8 + length v * 16) (rowUnits l v * 16) s (headBytes l (length v) below) (levelBytes l ++ each (u .write) v) (omega arith) (length-head l (length v) below) e in
-        let g : length (levelBytes l) ≡ levelUnits l * 16 - 8 = omega (arith, length-level l) in
-        (
+        let g : length (levelBytes l) ≡ levelUnits l * 16 - 8 = omega (arith, length-level l) in (
           part-front (unitAt base i) 8 (levelUnits l * 16 - 8 + length v * 16) (rowUnits l v * 16) s (headBytes l (length v) below) (levelBytes l ++ each (u .write) v) (omega arith) (length-head l (length v) below) e,
           part-front (unitAt base i + 8) (levelUnits l * 16 - 8) (length v * 16) (levelUnits l * 16 - 8 + length v * 16) s (levelBytes l) (each (u .write) v) refl g t,
           rw z at (part-back (unitAt base i + 8) (levelUnits l * 16 - 8) (length v * 16) (levelUnits l * 16 - 8 + length v * 16) s (levelBytes l) (each (u .write) v) refl g t),
@@ -87,15 +86,14 @@ module _ {X : Type 0} (u : Form X) (base : ℕ) (s : List ℕ) where
         let me : 64 + i + 1 + (rowUnits l v - 1) ≡ 64 + e = omega arith in
         let mp : 64 + i + 1 + (rowUnits l v - 1) + unitsF k ≡ 64 + p = omega arith in
         let a = part-front (unitAt base i) (rowUnits l v * 16) ((unitsF k + unitsF n) * 16) ((rowUnits l v + (unitsF k + unitsF n)) * 16) s
-            (rowBytes (u .write) l v (unitsF k)) (unitBytes (u .write) k ++ unitBytes (u .write) n) (omega arith) (length-row u l v (unitsF k)) (w .units) in
+        (rowBytes (u .write) l v (unitsF k)) (unitBytes (u .write) k ++ unitBytes (u .write) n) (omega arith) (length-row u l v (unitsF k)) (w .units) in
         let b = part-back (unitAt base i) (rowUnits l v * 16) ((unitsF k + unitsF n) * 16) ((rowUnits l v + (unitsF k + unitsF n)) * 16) s
-            (rowBytes (u .write) l v (unitsF k)) (unitBytes (u .write) k ++ unitBytes (u .write) n) (omega arith) (length-row u l v (unitsF k)) (w .units) in
+        (rowBytes (u .write) l v (unitsF k)) (unitBytes (u .write) k ++ unitBytes (u .write) n) (omega arith) (length-row u l v (unitsF k)) (w .units) in
         let r = row-no d i l v (unitsF k) a in
         let m = part-back (64 + i) 1 (rowUnits l v - 1 + (unitsF k + unitsF n)) (rowUnits l v + (unitsF k + unitsF n)) s
-            (d ∷ []) (replicate (rowUnits l v - 1) 255 ++ (marksOf (d + 1) k ++ marksOf d n)) (omega arith) refl (w .marks) in
+        (d ∷ []) (replicate (rowUnits l v - 1) 255 ++ (marksOf (d + 1) k ++ marksOf d n)) (omega arith) refl (w .marks) in
         let o = part-back (64 + i + 1) (rowUnits l v - 1) (unitsF k + unitsF n) (rowUnits l v - 1 + (unitsF k + unitsF n)) s
-            (replicate (rowUnits l v - 1) 255) (marksOf (d + 1) k ++ marksOf d n) refl (length-replicate (rowUnits l v - 1) 255) m in
-        (
+        (replicate (rowUnits l v - 1) 255) (marksOf (d + 1) k ++ marksOf d n) refl (length-replicate (rowUnits l v - 1) 255) m in (
           record {
             head = r .0;
             text = r .1;

@@ -52,7 +52,15 @@ fn marks_are_sound(s: &[u8], d: usize, i: usize, end: usize) -> bool
 }
 
 // The row at unit i is written as it is read: its head, its marks, the fill of its level, and what it holds.
-fn row_is_written(s: &[u8], base: usize, kind: Kind, d: usize, i: usize, n: usize, head: Head) -> bool
+fn row_is_written(
+    s: &[u8],
+    base: usize,
+    kind: Kind,
+    d: usize,
+    i: usize,
+    n: usize,
+    head: Head,
+) -> bool
     requires { ⌜ HeadAt base (now s) i head × (i + (head .len + 23) / 16 + head .own ≤ n) × (unitAt base n ≤ length (now s)) × (64 + n ≤ base) ⌝ }
     ensures { λ r. ⌜ r ≡ writtenFine kind base (now (s .entry)) d i ⌝ }
 {
@@ -121,4 +129,117 @@ fn is_in_order(s: &[u8], base: usize, level: &[u8], past: usize, n: usize) -> bo
     }
     let next = forest::level_at(s, base, past, n);
     is_less(forest::compare(level, next))
+}
+
+// The node of the row may stand where it stands: its level, what it has, and what follows it.
+fn row_is_placed(
+    s: &[u8],
+    base: usize,
+    kind: Kind,
+    d: usize,
+    i: usize,
+    n: usize,
+    head: Head,
+) -> bool
+    requires { ⌜ HeadAt base (now s) i head × (i < n) × (unitAt base n ≤ length (now s)) ⌝ }
+    ensures { λ r. ⌜ r ≡ placedFine kind base (now (s .entry)) d i n ⌝ }
+{
+    let level = forest::level_at(s, base, i, n);
+    if !level_is_sound(level, kind) {
+        return false;
+    }
+    if !shape_is_sound(level, d, head.own, head.below) {
+        return false;
+    }
+    let past = i + (head.len + 23) / 16 + head.own + head.below;
+    is_in_order(s, base, level, past, n)
+}
+
+// The cells of a level: none for a wildcard.
+fn cells_of(level: &[u8]) -> usize
+    ensures { λ r. ⌜ r ≡ levelCells (now (level .entry)) ⌝ }
+{
+    if level::is_only(level, b'+') {
+        return 0;
+    }
+    if level::is_only(level, b'#') {
+        return 0;
+    }
+    let len = level.len();
+    len / 16 + (len % 16 + 15) / 16
+}
+
+// Takes one node, what it holds and the cells of its level from what is left.
+fn take_node(left: Left, level: &[u8], own: usize) -> Tally
+    ensures { λ r. ⌜ r ≡ taken left (now (level .entry)) own ⌝ }
+{
+    if left.nodes < 1 {
+        return Tally::Unsound;
+    }
+    if left.pairs < own {
+        return Tally::Unsound;
+    }
+    let cells = cells_of(level);
+    if left.cells < cells {
+        return Tally::Unsound;
+    }
+    Tally::Sound(Left {
+        nodes: left.nodes - 1,
+        pairs: left.pairs - own,
+        cells: left.cells - cells,
+    })
+}
+
+// The rows of the units from `lo` up to n, at depth d, where a text has `room` bytes left, the '/' after each level counted.
+pub fn audit_rows(
+    s: &[u8],
+    base: usize,
+    kind: Kind,
+    d: usize,
+    room: usize,
+    lo: usize,
+    n: usize,
+    promised: Left,
+) -> Tally
+    requires { ⌜ (unitAt base n ≤ length (now s)) × (64 + n ≤ base) ⌝ }
+    ensures { λ r. ⌜ r ≡ tally kind base (now (s .entry)) d room lo n promised ⌝ }
+{
+    let mut i = lo;
+    let mut left = promised;
+    while i < n {
+        let head = head_at(s, base, i, n);
+        let end = i + (head.len + 23) / 16 + head.own;
+        let past = end + head.below;
+        if n < past {
+            return Tally::Unsound;
+        }
+        if DEEPEST < d {
+            return Tally::Unsound;
+        }
+        if room <= head.len {
+            return Tally::Unsound;
+        }
+        if !row_is_written(s, base, kind, d, i, n, head) {
+            return Tally::Unsound;
+        }
+        if !row_is_placed(s, base, kind, d, i, n, head) {
+            return Tally::Unsound;
+        }
+        let level = forest::level_at(s, base, i, n);
+        let Tally::Sound(rest) = take_node(left, level, head.own) else {
+            return Tally::Unsound;
+        };
+        if head.below == 0 {
+            left = rest;
+            i = past;
+            continue;
+        }
+        let below = audit_rows(s, base, kind, d + 1, room - (head.len + 1), end, past, rest);
+        let Tally::Sound(after) = below else {
+            return Tally::Unsound;
+        };
+        left = after;
+        i = past;
+    }
+    Tally::Sound(left)
 }

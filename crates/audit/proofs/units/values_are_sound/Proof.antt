@@ -59,8 +59,7 @@ loop-again c =
     let value = moment .before .before in
     let turn = value .before .before in
     let start = turn .before .before in
-    let a = start .args in
-    (
+    let a = start .args in (
       values-next (turn .loop .p) (turn .loop .left) (a .at) (a .own) (now (a .s)) (turn .loop .inv .0) (value .before .loop-test .taken) (turn .loop .inv .1) (start .pre)
           (value .get32 .ensures .0) (moment .before .if1 .left) (moment .get64 .ensures) (up .before .if2 .left) (up .is-upward .ensures) (c .if3 .left),
       omega arith,
