@@ -15,3 +15,4 @@ pub mod UnitLaws
 pub mod LevelLaws
 pub mod RowLaws
 pub mod Passes
+pub mod WholeLaws

@@ -4,7 +4,7 @@ mod rows;
 mod units;
 mod whole;
 
-// pub use whole::is_store;
+pub use whole::is_store;
 
 // What the header promises and the rows passed have not had: nodes, pairs and cells.
 pub struct Left {
