@@ -1,17 +1,19 @@
 -- The tests of a row, as the code makes them. Assumes nothing.
 use mathlib.Core.Path.{_≡_, refl, sym, ap, subst, _∙_}
-use Prim.Native.Nat.{ℕ, suc, _+_, _-_, _*_, _/_, _%_, _≤_, _<_}
+use Prim.Native.Nat.{ℕ, suc, _+_, _-_, _*_, _/_, _%_, _≤_, _<_, min}
 use mathlib.Core.Bool.{Bool, true, false, not, cond, _&&_, _||_, and-true}
 use mathlib.Core.List.{List, [], _∷_}
 use native.Mathlib.Omega.{arith}
+use native.Mathlib.Nat.{add-zero}
 use lib.Dec.{eqb, ltb}
-use lib.ListN.{length, drop, getD}
+use lib.ListN.{length, take, drop, getD}
 use borrow.Author.Tests.{eq-eqb, ne-eqb, lt-ltb, le-ltb, le-leb, lt-leb, not-false, not-true}
 use Rattle.level.specs.Kinds.{blank, isOnly, same}
 use Rattle.level.proofs.KindLaws.{blank-none, blank-some}
 use Rattle.lent.specs.Numbers.{be}
 use Rattle.lent.specs.Parts.{part}
 use Rattle.lent.specs.Total.{read}
+use Rattle.lent.proofs.Parts.{part-eq, take-part, drop-part}
 use Rattle.lent.proofs.Anywhere.{read-in}
 use Rattle.held.specs.Order.{Level, levelLt}
 use Rattle.held.specs.Room.{levelCells}
@@ -27,20 +29,69 @@ use Rattle.audit.specs.declared.Tally.{Tally}
 use Rattle.audit.specs.declared.Tally.the-variants.{Sound, Unsound}
 use Rattle.audit.specs.Tally.{taken}
 use Rattle.audit.specs.Heads.{HeadAt}
-use Rattle.audit.specs.Tests.{every, levelFine, ownFine, heldAt, endAt, pastAt, mayHold, shapeFine, less, follows, orderFine, marksFine, fillFine, writtenFine, placedFine}
+use Rattle.audit.specs.Tests.{every, levelFine, plainTo, ownFine, endAt, mayHold, shapeFine, less, follows, marksFine, fillFine, writtenFine, textFine, placedFine}
+use Rattle.audit.proofs.UnitLaws.{from-part}
+use Rattle.audit.proofs.LevelLaws.{short-fine}
 
 -- the head
-pub head-is : (base i n : ℕ) (s : List ℕ) → i < n → unitAt base n ≤ length s → {a b c : ℕ} → a ≡ read 2 (base + i * 16) s → a < 65536 → b ≡ read 2 (base + i * 16 + 2) s → b < 65536 → c ≡ read 2 (base + i * 16 + 4) s → c < 65536
-    → HeadAt base s i (record { len = a; own = b; below = c })
-head-is base i n s h w ea la eb lb ec lc =
+pub head-is : (base i n : ℕ) (s : List ℕ) → i < n → unitAt base n ≤ length s → {a b c e : ℕ}
+    → a ≡ read 2 0 (take (base + i * 16 + 8 - (base + i * 16)) (drop (base + i * 16) s)) → a < 65536
+    → b ≡ read 2 2 (take (base + i * 16 + 8 - (base + i * 16)) (drop (base + i * 16) s)) → b < 65536
+    → c ≡ read 2 4 (take (base + i * 16 + 8 - (base + i * 16)) (drop (base + i * 16) s)) → c < 65536
+    → e ≡ read 2 6 (take (base + i * 16 + 8 - (base + i * 16)) (drop (base + i * 16) s))
+    → HeadAt base s i (record { len = a; own = b; below = c; spare = e })
+head-is base i n s h w ea la eb lb ec lc ee =
     record {
-      len-is = ea ∙ read-in 2 (base + i * 16) s (omega arith);
-      own-is = eb ∙ read-in 2 (base + i * 16 + 2) s (omega arith);
-      below-is = ec ∙ read-in 2 (base + i * 16 + 4) s (omega arith);
+      len-is = ea ∙ from-part (base + i * 16) 8 0 2 s (omega arith) (omega arith) ∙ read-in 2 (base + i * 16 + 0) s (omega arith) ∙ rw add-zero;
+      own-is = eb ∙ from-part (base + i * 16) 8 2 2 s (omega arith) (omega arith) ∙ read-in 2 (base + i * 16 + 2) s (omega arith);
+      below-is = ec ∙ from-part (base + i * 16) 8 4 2 s (omega arith) (omega arith) ∙ read-in 2 (base + i * 16 + 4) s (omega arith);
+      spare-is = ee ∙ from-part (base + i * 16) 8 6 2 s (omega arith) (omega arith) ∙ read-in 2 (base + i * 16 + 6) s (omega arith);
       len-small = la;
       own-small = lb;
       below-small = lc;
     }
+
+-- the level of a row of which nothing is cut off
+module _ (base : ℕ) (s : List ℕ) (i n : ℕ) {h : Head} (e : HeadAt base s i h) (fits : i + (h .len + 23) / 16 + h .own + h .below ≤ n) (within : unitAt base n ≤ length s) where
+  level-part : levelIn base s i n ≡ part (base + i * 16 + 8) (h .len) s
+  unfolding levelIn
+  level-part = let m : min (lenAt base s i) ((n - i) * 16 - 8) ≡ h .len = omega (arith, e .len-is) in rw m
+
+  pub level-of-row : take (base + i * 16 + 8 + h .len - (base + i * 16 + 8)) (drop (base + i * 16 + 8) s) ≡ levelIn base s i n
+  level-of-row =
+      let z : base + i * 16 + 8 + h .len - (base + i * 16 + 8) ≡ h .len = omega arith in
+      rw z (sym (part-eq (base + i * 16 + 8) (h .len) s)) ∙ sym level-part
+
+  -- and its fill
+  module _ (k : Kind) where
+    pub text-plain : h .len ≤ 8 → {t : Bool} → t ≡ plainTo (h .len) (take (base + i * 16 + 8 + 8 - (base + i * 16 + 8)) (drop (base + i * 16 + 8) s)) → t ≡ true → true ≡ textFine k base s i n
+    unfolding textFine fillFine
+    text-plain short et q =
+        let z : base + i * 16 + 8 + 8 - (base + i * 16 + 8) ≡ 8 = omega arith in
+        let f = short-fine k (h .len) (take 8 (drop (base + i * 16 + 8) s)) (rw z at (sym et ∙ q)) in
+        let m : min (h .len) 8 ≡ h .len = omega arith in
+        let w : (h .len + 23) / 16 * 16 - 8 - h .len ≡ 8 - h .len = omega arith in
+        let l : levelIn base s i n ≡ take (h .len) (take 8 (drop (base + i * 16 + 8) s)) =
+        level-part ∙ rw (← part-eq (base + i * 16 + 8) 8 s, take-part (h .len) (base + i * 16 + 8) 8 s, m) in
+        let d : drop (h .len) (take 8 (drop (base + i * 16 + 8) s)) ≡ part (base + i * 16 + 8 + h .len) (8 - h .len) s =
+        rw (← part-eq (base + i * 16 + 8) 8 s) (drop-part (h .len) (base + i * 16 + 8) 8 s) in
+        let g : every 0 (part (base + i * 16 + 8 + h .len) ((h .len + 23) / 16 * 16 - 8 - h .len) s) ≡ true = rw (w, ← d) (f .1) in
+        sym (rw (l, f .0, ← e .len-is, g))
+
+    module _ {f : Bool} (ef : f ≡ every 0 (part (base + i * 16 + 8 + h .len) (base + (i + (h .len + 23) / 16) * 16 - (base + i * 16 + 8 + h .len)) s)) where
+      fill-is : f ≡ fillFine base s i
+      unfolding fillFine
+      fill-is =
+          let w : base + (i + (lenAt base s i + 23) / 16) * 16 - (base + i * 16 + 8 + lenAt base s i) ≡ (lenAt base s i + 23) / 16 * 16 - 8 - lenAt base s i = omega arith in
+          ef ∙ rw (e .len-is, w)
+
+      pub text-fill : not f ≡ true → false ≡ textFine k base s i n
+      unfolding textFine
+      text-fill x = rw (← fill-is, not-true f x)
+
+      pub text-last : not f ≡ false → {l : Level} → l ≡ levelIn base s i n → {g : Bool} → g ≡ levelFine k l → g ≡ textFine k base s i n
+      unfolding textFine
+      text-last x el eg = rw (← fill-is, not-false f x) (eg ∙ ap (levelFine k) el)
 
 -- the marks
 module _ (s : List ℕ) (d i end : ℕ) {m : ℕ} (em : m ≡ getD s (64 + i) 0) where
@@ -119,58 +170,35 @@ module _ (base : ℕ) (s : List ℕ) (l : Level) (past n : ℕ) where
   follows-some h {m} em eo et = rw (lt-ltb past n h) (et ∙ ap less eo ∙ less-is l m ∙ ap (levelLt l) em)
 
 -- a row that is written as it is read
-module _ (k : Kind) (base : ℕ) (s : List ℕ) (d i n : ℕ) {h : Head} (e : HeadAt base s i h) (fits : i + (h .len + 23) / 16 + h .own ≤ n) (within : unitAt base n ≤ length s)
-    {a : ℕ} (ea : a ≡ read 2 (base + i * 16 + 6) s) where
-  spare-is : a ≡ be (part (unitAt base i + 6) 2 s)
-  spare-is = ea ∙ read-in 2 (base + i * 16 + 6) s (omega arith)
-
-  pub written-spare : (a ≡ 0 → ⊥) → false ≡ writtenFine k base s d i
+module _ (k : Kind) (base : ℕ) (s : List ℕ) (d i : ℕ) {h : Head} (e : HeadAt base s i h) where
+  pub written-spare : (h .spare ≡ 0 → ⊥) → false ≡ writtenFine k base s d i
   unfolding writtenFine
-  written-spare x = rw (← spare-is, ne-eqb a 0 x)
+  written-spare x = rw (← e .spare-is, ne-eqb (h .spare) 0 x)
 
-  module _ (za : a ≡ 0) {m : Bool} (em : m ≡ marksFine s d i (i + (h .len + 23) / 16 + h .own)) where
+  module _ (za : h .spare ≡ 0) {m : Bool} (em : m ≡ marksFine s d i (i + (h .len + 23) / 16 + h .own)) where
     marks-are : m ≡ marksFine s d i (endAt base s i)
     marks-are = em ∙ rw (e .len-is, e .own-is)
 
     pub written-marks : not m ≡ true → false ≡ writtenFine k base s d i
     unfolding writtenFine
-    written-marks x = rw (← spare-is, eq-eqb a 0 za, ← marks-are, not-true m x)
+    written-marks x = rw (← e .spare-is, eq-eqb (h .spare) 0 za, ← marks-are, not-true m x)
 
-    module _ (zm : not m ≡ false) {f : Bool} (ef : f ≡ every 0 (part (base + i * 16 + 8 + h .len) (base + (i + (h .len + 23) / 16) * 16 - (base + i * 16 + 8 + h .len)) s)) where
-      fill-is : f ≡ fillFine base s i
-      unfolding fillFine
-      fill-is =
-          let w : base + (i + (lenAt base s i + 23) / 16) * 16 - (base + i * 16 + 8 + lenAt base s i) ≡ (lenAt base s i + 23) / 16 * 16 - 8 - lenAt base s i = omega arith in
-          ef ∙ rw (e .len-is, w)
-
-      pub written-fill : not f ≡ true → false ≡ writtenFine k base s d i
-      unfolding writtenFine
-      written-fill x = rw (← spare-is, eq-eqb a 0 za, ← marks-are, not-false m zm, ← fill-is, not-true f x)
-
-      pub written-last : not f ≡ false → {g : Bool} → g ≡ ownFine k (h .own) (drop (base + (i + (h .len + 23) / 16) * 16) s) → g ≡ writtenFine k base s d i
-      unfolding writtenFine
-      written-last x eg = rw (← spare-is, eq-eqb a 0 za, ← marks-are, not-false m zm, ← fill-is, not-false f x) (eg ∙ rw (e .len-is, e .own-is))
+    pub written-last : not m ≡ false → {g : Bool} → g ≡ ownFine k (h .own) (drop (base + (i + (h .len + 23) / 16) * 16) s) → g ≡ writtenFine k base s d i
+    unfolding writtenFine
+    written-last x eg = rw (← e .spare-is, eq-eqb (h .spare) 0 za, ← marks-are, not-false m x) (eg ∙ rw (e .len-is, e .own-is))
 
 -- a node that may stand where it stands
-module _ (k : Kind) (base : ℕ) (s : List ℕ) (d i n : ℕ) {h : Head} (e : HeadAt base s i h) {l : Level} (el : l ≡ levelIn base s i n) {t : Bool} (et : t ≡ levelFine k l) where
-  level-is : t ≡ levelFine k (levelIn base s i n)
-  level-is = et ∙ ap (levelFine k) el
+module _ (base : ℕ) (s : List ℕ) (d i n : ℕ) {h : Head} (e : HeadAt base s i h) {l : Level} (el : l ≡ levelIn base s i n) {m : Bool} (em : m ≡ shapeFine d l (h .own) (h .below)) where
+  shape-is : m ≡ shapeFine d (levelIn base s i n) (ownAt base s i) (belowAt base s i)
+  shape-is = em ∙ rw (el, e .own-is, e .below-is)
 
-  pub placed-level : not t ≡ true → false ≡ placedFine k base s d i n
+  pub placed-shape : not m ≡ true → false ≡ placedFine base s d i n
   unfolding placedFine
-  placed-level x = rw (← level-is, not-true t x)
+  placed-shape x = rw (← shape-is, not-true m x)
 
-  module _ (zt : not t ≡ false) {m : Bool} (em : m ≡ shapeFine d l (h .own) (h .below)) where
-    shape-is : m ≡ shapeFine d (levelIn base s i n) (ownAt base s i) (belowAt base s i)
-    shape-is = em ∙ rw (el, e .own-is, e .below-is)
-
-    pub placed-shape : not m ≡ true → false ≡ placedFine k base s d i n
-    unfolding placedFine
-    placed-shape x = rw (← level-is, not-false t zt, ← shape-is, not-true m x)
-
-    pub placed-last : not m ≡ false → {o : Bool} → o ≡ follows base s l (i + (h .len + 23) / 16 + h .own + h .below) n → o ≡ placedFine k base s d i n
-    unfolding placedFine
-    placed-last x eo = rw (← level-is, not-false t zt, ← shape-is, not-false m x) (eo ∙ rw (el, e .len-is, e .own-is, e .below-is))
+  pub placed-last : not m ≡ false → {o : Bool} → o ≡ follows base s l (i + (h .len + 23) / 16 + h .own + h .below) n → o ≡ placedFine base s d i n
+  unfolding placedFine
+  placed-last x eo = rw (← shape-is, not-false m x) (eo ∙ rw (el, e .len-is, e .own-is, e .below-is))
 
 -- the cells of a level
 module _ (l : Level) {p : Bool} (ep : p ≡ isOnly 43 l) where

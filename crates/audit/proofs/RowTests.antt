@@ -18,7 +18,7 @@ use Rattle.region.specs.Layout.{levelUnits, rowUnits, headBytes, levelBytes}
 use Rattle.region.specs.Decode.{unitsTo}
 use Rattle.region.specs.declared.Kind.{Kind}
 use Rattle.forest.specs.Places.{unitAt, lenAt, ownAt, belowAt, levelUnitsAt, rowEnd, kidsEnd, levelIn, ownIn}
-use Rattle.audit.specs.Tests.{every, levelFine, ownFine, heldAt, endAt, pastAt, shapeFine, marksFine, fillFine, orderFine, writtenFine, placedFine, nodeFine}
+use Rattle.audit.specs.Tests.{every, levelFine, ownFine, heldAt, endAt, pastAt, shapeFine, marksFine, fillFine, orderFine, writtenFine, textFine, placedFine, nodeFine}
 
 -- the tests of a node, one by one
 pub record Tested (k : Kind) (base : ℕ) (s : List ℕ) (d room i n : ℕ) : Type 0 where
@@ -40,27 +40,28 @@ module _ (k : Kind) (base : ℕ) (s : List ℕ) (d room i n : ℕ) where
   three false b c q = absurd (true≢false (sym q))
 
   pub tested : nodeFine k base s d room i n ≡ true → Tested k base s d room i n
-  unfolding nodeFine writtenFine placedFine
+  unfolding nodeFine writtenFine textFine placedFine
   tested e =
-      let p = three (leb (pastAt base s i) n) (leb d 128) (ltb (lenAt base s i) room && (writtenFine k base s d i && placedFine k base s d i n)) e in
-      let q = three (ltb (lenAt base s i) room) (writtenFine k base s d i) (placedFine k base s d i n) (p .2) in
-      let w = three (eqb (be (part (unitAt base i + 6) 2 s)) 0) (marksFine s d i (endAt base s i)) (fillFine base s i && ownFine k (ownAt base s i) (drop (unitAt base (heldAt base s i)) s)) (q .1) in
-      let r = three (levelFine k (levelIn base s i n)) (shapeFine d (levelIn base s i n) (ownAt base s i) (belowAt base s i)) (orderFine base s i n) (q .2) in
+      let p = three (leb (pastAt base s i) n) (leb d 128) (ltb (lenAt base s i) room && (writtenFine k base s d i && (textFine k base s i n && placedFine base s d i n))) e in
+      let q = three (ltb (lenAt base s i) room) (writtenFine k base s d i) (textFine k base s i n && placedFine base s d i n) (p .2) in
+      let w = three (eqb (be (part (unitAt base i + 6) 2 s)) 0) (marksFine s d i (endAt base s i)) (ownFine k (ownAt base s i) (drop (unitAt base (heldAt base s i)) s)) (q .1) in
+      let f = and-left (fillFine base s i && levelFine k (levelIn base s i n)) (placedFine base s d i n) (q .2) in
+      let r = and-right (fillFine base s i && levelFine k (levelIn base s i n)) (placedFine base s d i n) (q .2) in
       record {
         past = leb-true (pastAt base s i) n (p .0);
         depth = leb-true d 128 (p .1);
         wide = ltb-true (lenAt base s i) room (q .0);
         spare = eqb-true (be (part (unitAt base i + 6) 2 s)) 0 (w .0);
         marks = w .1;
-        fill = and-left (fillFine base s i) (ownFine k (ownAt base s i) (drop (unitAt base (heldAt base s i)) s)) (w .2);
-        level = r .0;
-        holds = and-right (fillFine base s i) (ownFine k (ownAt base s i) (drop (unitAt base (heldAt base s i)) s)) (w .2);
-        shape = r .1;
-        order = r .2;
+        fill = and-left (fillFine base s i) (levelFine k (levelIn base s i n)) f;
+        level = and-right (fillFine base s i) (levelFine k (levelIn base s i n)) f;
+        holds = w .2;
+        shape = and-left (shapeFine d (levelIn base s i n) (ownAt base s i) (belowAt base s i)) (orderFine base s i n) r;
+        order = and-right (shapeFine d (levelIn base s i n) (ownAt base s i) (belowAt base s i)) (orderFine base s i n) r;
       }
 
   pub passed : Tested k base s d room i n → nodeFine k base s d room i n ≡ true
-  unfolding nodeFine writtenFine placedFine
+  unfolding nodeFine writtenFine textFine placedFine
   passed t =
       rw (
         le-leb (pastAt base s i) n (t .past),

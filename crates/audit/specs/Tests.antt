@@ -29,6 +29,25 @@ fault Retained = wild
 unfoldable pub levelFine : Kind → Level → Bool
 levelFine k l = isUtf8 l && (not (has 0 l) && (not (has 47 l) && not (fault k l)))
 
+-- bytes that are fine in any level: ASCII from '$' on, but for '+' and '/'. Most bytes are such, and a level of them needs no
+-- other test.
+abbrev pub plainByte : ℕ → Bool
+plainByte b = leb 36 b && (leb b 127 && (not (eqb b 43) && not (eqb b 47)))
+
+unfoldable pub plain : List ℕ → Bool
+plain [] = true
+plain (b ∷ l) = plainByte b && plain l
+
+-- n such bytes, and then 0
+unfoldable pub plainTo : ℕ → List ℕ → Bool
+plainTo n [] = true
+plainTo zero (b ∷ w) = eqb b 0 && plainTo zero w
+plainTo (suc n) (b ∷ w) = plainByte b && plainTo n w
+
+-- a test as a number: 0 where it is passed
+abbrev pub odd : Bool → ℕ
+odd t = cond t 0 1
+
 -- the units of n values, of which w are the bytes: behind each value all is 0, and the values ascend
 abbrev pub upward : ℕ → List ℕ → Bool
 upward zero w = true
@@ -85,19 +104,20 @@ follows base s l past n = not (ltb past n) || levelLt l (levelIn base s past n)
 abbrev pub orderFine : (base : ℕ) → List ℕ → (i n : ℕ) → Bool
 orderFine base s i n = follows base s (levelIn base s i n) (pastAt base s i) n
 
--- the row at unit i is written as it is read
+-- the row at unit i is written as it is read: its head, its marks, what it holds
 unfoldable pub writtenFine : Kind → (base : ℕ) → List ℕ → (d i : ℕ) → Bool
 writtenFine k base s d i =
     eqb (be (part (unitAt base i + 6) 2 s)) 0
-    && (marksFine s d i (endAt base s i)
-    && (fillFine base s i
-    && ownFine k (ownAt base s i) (drop (unitAt base (heldAt base s i)) s)))
+    && (marksFine s d i (endAt base s i) && ownFine k (ownAt base s i) (drop (unitAt base (heldAt base s i)) s))
 
--- and its node is one that may stand there, where the row of its siblings ends at unit n
-unfoldable pub placedFine : Kind → (base : ℕ) → List ℕ → (d i n : ℕ) → Bool
-placedFine k base s d i n =
-    levelFine k (levelIn base s i n) && (shapeFine d (levelIn base s i n) (ownAt base s i) (belowAt base s i) && orderFine base s i n)
+-- its level, and what fills the level's last unit
+unfoldable pub textFine : Kind → (base : ℕ) → List ℕ → (i n : ℕ) → Bool
+textFine k base s i n = fillFine base s i && levelFine k (levelIn base s i n)
+
+-- what its node has, and what follows it
+unfoldable pub placedFine : (base : ℕ) → List ℕ → (d i n : ℕ) → Bool
+placedFine base s d i n = shapeFine d (levelIn base s i n) (ownAt base s i) (belowAt base s i) && orderFine base s i n
 
 -- all of that, with the depth and the bytes that a text has left
 unfoldable pub nodeFine : Kind → (base : ℕ) → List ℕ → (d room i n : ℕ) → Bool
-nodeFine k base s d room i n = leb (pastAt base s i) n && (leb d 128 && (ltb (lenAt base s i) room && (writtenFine k base s d i && placedFine k base s d i n)))
+nodeFine k base s d room i n = leb (pastAt base s i) n && (leb d 128 && (ltb (lenAt base s i) room && (writtenFine k base s d i && (textFine k base s i n && placedFine base s d i n))))

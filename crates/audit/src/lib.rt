@@ -19,9 +19,10 @@ pub enum Tally {
     Unsound,
 }
 
-// The numbers of a row's head: the length of its level, how many it holds, the units below it.
+// The numbers of a row's head: the length of its level, how many it holds, the units below it, and one that is 0.
 pub struct Head {
     pub len: usize,
     pub own: usize,
     pub below: usize,
+    pub spare: usize,
 }

@@ -3,13 +3,14 @@ ghost use mathlib.Core.Path.{_≡_};
 ghost use Prim.Native.Nat.{_+_, _*_, _/_, _≤_, _<_};
 ghost use lib.ListN.{length};
 ghost use Rattle.held.specs.Room.{levelCells};
-ghost use Rattle.forest.specs.Places.{unitAt};
+ghost use Rattle.forest.specs.Places.{unitAt, levelIn};
 ghost use Rattle.audit.specs.Heads.{HeadAt};
-ghost use Rattle.audit.specs.Tests.{mayHold, shapeFine, less, follows, marksFine, writtenFine, placedFine};
+ghost use Rattle.audit.specs.Tests.{mayHold, shapeFine, less, follows, marksFine, writtenFine, textFine, placedFine};
 ghost use Rattle.audit.specs.Tally.{taken, tally};
 use crate::Head;
 use crate::Left;
 use crate::Tally;
+use crate::levels::is_short_plain;
 use crate::levels::level_is_sound;
 use crate::units::all_are;
 use crate::units::own_is_sound;
@@ -27,10 +28,27 @@ fn head_at(s: &[u8], base: usize, i: usize, n: usize) -> Head
     ensures { λ r. ⌜ HeadAt base (now (s .entry)) i r ⌝ }
 {
     let at = base + i * 16;
-    let len = lent::get16(s, at) as usize;
-    let own = lent::get16(s, at + 2) as usize;
-    let below = lent::get16(s, at + 4) as usize;
-    Head { len, own, below }
+    let unit = &s[at..at + 8];
+    let len = lent::get16(unit, 0) as usize;
+    let own = lent::get16(unit, 2) as usize;
+    let below = lent::get16(unit, 4) as usize;
+    let spare = lent::get16(unit, 6) as usize;
+    Head {
+        len,
+        own,
+        below,
+        spare,
+    }
+}
+
+// The level of the row, of which nothing is cut off.
+fn level_of(s: &[u8], base: usize, i: usize, n: usize, head: Head) -> &[u8]
+    requires { ⌜ HeadAt base (now s) i head × (i + (head .len + 23) / 16 + head .own + head .below ≤ n) × (unitAt base n ≤ length (now s)) ⌝ }
+    ensures { λ r. ⌜ now r ≡ levelIn base (now (s .entry)) i n ⌝ }
+{
+    let from = base + i * 16 + 8;
+    let to = from + head.len;
+    &s[from..to]
 }
 
 fn wide(byte: u8) -> usize
@@ -51,7 +69,7 @@ fn marks_are_sound(s: &[u8], d: usize, i: usize, end: usize) -> bool
     all_are(s, 255, at + 1, MARKS + end)
 }
 
-// The row at unit i is written as it is read: its head, its marks, the fill of its level, and what it holds.
+// The row at unit i is written as it is read: its head, its marks, and what it holds.
 fn row_is_written(
     s: &[u8],
     base: usize,
@@ -64,20 +82,32 @@ fn row_is_written(
     requires { ⌜ HeadAt base (now s) i head × (i + (head .len + 23) / 16 + head .own ≤ n) × (unitAt base n ≤ length (now s)) × (64 + n ≤ base) ⌝ }
     ensures { λ r. ⌜ r ≡ writtenFine kind base (now (s .entry)) d i ⌝ }
 {
-    let at = base + i * 16;
-    if lent::get16(s, at + 6) != 0 {
+    if head.spare != 0 {
         return false;
     }
     let held = i + (head.len + 23) / 16;
     if !marks_are_sound(s, d, i, held + head.own) {
         return false;
     }
-    let from = at + 8 + head.len;
-    let to = base + held * 16;
-    if !all_are(s, 0, from, to) {
+    own_is_sound(s, kind, base + held * 16, head.own)
+}
+
+// The level of the row, and what fills its last unit. A short plain level is seen at once with its fill.
+fn text_is_sound(s: &[u8], base: usize, kind: Kind, i: usize, n: usize, head: Head) -> bool
+    requires { ⌜ HeadAt base (now s) i head × (i + (head .len + 23) / 16 + head .own + head .below ≤ n) × (unitAt base n ≤ length (now s)) ⌝ }
+    ensures { λ r. ⌜ r ≡ textFine kind base (now (s .entry)) i n ⌝ }
+{
+    let from = base + i * 16 + 8;
+    if head.len <= 8 {
+        if is_short_plain(&s[from..from + 8], head.len) {
+            return true;
+        }
+    }
+    let to = base + (i + (head.len + 23) / 16) * 16;
+    if !all_are(s, 0, from + head.len, to) {
         return false;
     }
-    own_is_sound(s, kind, to, head.own)
+    level_is_sound(level_of(s, base, i, n, head), kind)
 }
 
 // A blank first level holds nothing: it would be the empty text.
@@ -131,23 +161,19 @@ fn is_in_order(s: &[u8], base: usize, level: &[u8], past: usize, n: usize) -> bo
     is_less(forest::compare(level, next))
 }
 
-// The node of the row may stand where it stands: its level, what it has, and what follows it.
+// The node of the row may stand where it stands: what it has, and what follows it.
 fn row_is_placed(
     s: &[u8],
     base: usize,
-    kind: Kind,
+    level: &[u8],
     d: usize,
     i: usize,
     n: usize,
     head: Head,
 ) -> bool
-    requires { ⌜ HeadAt base (now s) i head × (i < n) × (unitAt base n ≤ length (now s)) ⌝ }
-    ensures { λ r. ⌜ r ≡ placedFine kind base (now (s .entry)) d i n ⌝ }
+    requires { ⌜ HeadAt base (now s) i head × (now level ≡ levelIn base (now s) i n) × (i < n) × (unitAt base n ≤ length (now s)) ⌝ }
+    ensures { λ r. ⌜ r ≡ placedFine base (now (s .entry)) d i n ⌝ }
 {
-    let level = forest::level_at(s, base, i, n);
-    if !level_is_sound(level, kind) {
-        return false;
-    }
     if !shape_is_sound(level, d, head.own, head.below) {
         return false;
     }
@@ -222,10 +248,13 @@ pub fn audit_rows(
         if !row_is_written(s, base, kind, d, i, n, head) {
             return Tally::Unsound;
         }
-        if !row_is_placed(s, base, kind, d, i, n, head) {
+        if !text_is_sound(s, base, kind, i, n, head) {
             return Tally::Unsound;
         }
-        let level = forest::level_at(s, base, i, n);
+        let level = level_of(s, base, i, n, head);
+        if !row_is_placed(s, base, level, d, i, n, head) {
+            return Tally::Unsound;
+        }
         let Tally::Sound(rest) = take_node(left, level, head.own) else {
             return Tally::Unsound;
         };

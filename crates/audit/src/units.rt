@@ -1,4 +1,5 @@
-// The units of a row: their marks, what fills a level's last unit, and the units of what a node holds.
+// The units of a row: their marks, what fills a level's last unit, and the units of what a node holds. Numbers are read from
+// a part of known length: then the compiler tests no place a second time.
 ghost use mathlib.Core.Path.{_≡_};
 ghost use Prim.Native.Nat.{_+_, _-_, _*_, _≤_};
 ghost use lib.ListN.{length, drop};
@@ -29,7 +30,8 @@ fn is_upward(s: &[u8], at: usize, left: usize) -> bool
     if left == 0 {
         return true;
     }
-    lent::get32(s, at) < lent::get32(s, at + 16)
+    let pair = &s[at..at + 32];
+    lent::get32(pair, 0) < lent::get32(pair, 16)
 }
 
 // The units of values: behind each value all is 0, and they ascend.
@@ -41,10 +43,11 @@ fn values_are_sound(s: &[u8], at: usize, own: usize) -> bool
     let mut left = own;
     while 0 < left {
         left -= 1;
-        if lent::get32(s, p + 4) != 0 {
+        let unit = &s[p..p + 16];
+        if lent::get32(unit, 4) != 0 {
             return false;
         }
-        if lent::get64(s, p + 8) != 0 {
+        if lent::get64(unit, 8) != 0 {
             return false;
         }
         if !is_upward(s, p, left) {
@@ -66,14 +69,15 @@ fn records_are_sound(s: &[u8], at: usize, own: usize) -> bool
     if 1 < own {
         return false;
     }
-    let marker = lent::get32(s, at + 4);
+    let unit = &s[at..at + 16];
+    let marker = lent::get32(unit, 4);
     if marker == 0x1000000 {
         return true;
     }
     if marker != 0 {
         return false;
     }
-    lent::get64(s, at + 8) == 0
+    lent::get64(unit, 8) == 0
 }
 
 pub fn own_is_sound(s: &[u8], kind: Kind, at: usize, own: usize) -> bool

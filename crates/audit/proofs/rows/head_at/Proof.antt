@@ -10,20 +10,29 @@ mul-at c = search needs
 add-at : tie.Need-add-at
 add-at c = search needs
 
+add-unit : tie.Need-add-unit
+add-unit c = search needs
+
+sub-unit : tie.Need-sub-unit
+sub-unit c = search needs
+
+part-unit-start : tie.Need-part-unit-start
+part-unit-start c = search needs
+
+part-unit-end : tie.Need-part-unit-end
+part-unit-end c = search needs
+
 get16-requires : tie.Need-get16-requires
 get16-requires c κs = search needs
-
-add-get16 : tie.Need-add-get16
-add-get16 c = search needs
 
 get16-requires-2 : tie.Need-get16-requires-2
 get16-requires-2 c κs = search needs
 
-add-get16-2 : tie.Need-add-get16-2
-add-get16-2 c = search needs
-
 get16-requires-3 : tie.Need-get16-requires-3
 get16-requires-3 c κs = search needs
+
+get16-requires-4 : tie.Need-get16-requires-4
+get16-requires-4 c κs = search needs
 
 returns : tie.Need-returns
 returns c = search (needs, head-is)
@@ -34,9 +43,12 @@ head-at-spec =
     (tie.spec
     mul-at
     add-at
+    add-unit
+    sub-unit
+    part-unit-start
+    part-unit-end
     get16-requires
-    add-get16
     get16-requires-2
-    add-get16-2
     get16-requires-3
+    get16-requires-4
     returns)

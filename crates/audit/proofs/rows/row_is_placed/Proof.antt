@@ -1,23 +1,14 @@
 -- `audit::rows::row_is_placed` meets its contract. Assumes nothing.
 use borrow.Author.Needs.{needs}
-use Rattle.audit.proofs.RowLaws.{placed-level, placed-shape, placed-last}
+use Rattle.audit.proofs.RowLaws.{placed-shape, placed-last}
 use Rattle.audit.proofs.rows.row_is_placed.Statement.{statement}
 use Rattle.audit.proofs.rows.row_is_placed.Tie as tie
-
-level-at-requires : tie.Need-level-at-requires
-level-at-requires c κs = search needs
-
-level-is-sound-requires : tie.Need-level-is-sound-requires
-level-is-sound-requires c κs = search needs
-
-returns : tie.Need-returns
-returns c = search (needs, placed-level)
 
 shape-is-sound-requires : tie.Need-shape-is-sound-requires
 shape-is-sound-requires c κs = search needs
 
-returns-2 : tie.Need-returns-2
-returns-2 c = search (needs, placed-shape)
+returns : tie.Need-returns
+returns c = search (needs, placed-shape)
 
 add-past : tie.Need-add-past
 add-past c = search needs
@@ -34,21 +25,18 @@ add-past-4 c = search needs
 is-in-order-requires : tie.Need-is-in-order-requires
 is-in-order-requires c κs = search needs
 
-returns-3 : tie.Need-returns-3
-returns-3 c = search (needs, placed-last)
+returns-2 : tie.Need-returns-2
+returns-2 c = search (needs, placed-last)
 
 pub row-is-placed-spec : {M : Type 1} → statement M
 row-is-placed-spec =
     tie.close
     (tie.spec
-    level-at-requires
-    level-is-sound-requires
-    returns
     shape-is-sound-requires
-    returns-2
+    returns
     add-past
     add-past-2
     add-past-3
     add-past-4
     is-in-order-requires
-    returns-3)
+    returns-2)

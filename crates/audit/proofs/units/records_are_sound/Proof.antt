@@ -10,8 +10,17 @@ returns c = search (needs, records-none)
 returns-2 : tie.Need-returns-2
 returns-2 c = search (needs, records-more)
 
-add-get32 : tie.Need-add-get32
-add-get32 c = search needs
+add-unit : tie.Need-add-unit
+add-unit c = search needs
+
+sub-unit : tie.Need-sub-unit
+sub-unit c = search needs
+
+part-unit-start : tie.Need-part-unit-start
+part-unit-start c = search needs
+
+part-unit-end : tie.Need-part-unit-end
+part-unit-end c = search needs
 
 get32-requires : tie.Need-get32-requires
 get32-requires c κs = search needs
@@ -21,9 +30,6 @@ returns-3 c = search (needs, records-marked)
 
 returns-4 : tie.Need-returns-4
 returns-4 c = search (needs, records-broken)
-
-add-get64 : tie.Need-add-get64
-add-get64 c = search needs
 
 get64-requires : tie.Need-get64-requires
 get64-requires c κs = search needs
@@ -37,10 +43,12 @@ records-are-sound-spec =
     (tie.spec
     returns
     returns-2
-    add-get32
+    add-unit
+    sub-unit
+    part-unit-start
+    part-unit-end
     get32-requires
     returns-3
     returns-4
-    add-get64
     get64-requires
     returns-5)

@@ -22,17 +22,23 @@ loop-holds c = (refl, refl)
 sub-left : tie.Need-sub-left Inv-loop μ-loop
 sub-left c = search needs
 
-add-get32 : tie.Need-add-get32 Inv-loop μ-loop
-add-get32 c = search needs
+add-unit : tie.Need-add-unit Inv-loop μ-loop
+add-unit c = search needs
+
+sub-unit : tie.Need-sub-unit Inv-loop μ-loop
+sub-unit c = search needs
+
+part-unit-start : tie.Need-part-unit-start Inv-loop μ-loop
+part-unit-start c = search needs
+
+part-unit-end : tie.Need-part-unit-end Inv-loop μ-loop
+part-unit-end c = search needs
 
 get32-requires : tie.Need-get32-requires Inv-loop μ-loop
 get32-requires c κs = search needs
 
 returns : tie.Need-returns Inv-loop μ-loop
 returns c = search (needs, values-first)
-
-add-get64 : tie.Need-add-get64 Inv-loop μ-loop
-add-get64 c = search needs
 
 get64-requires : tie.Need-get64-requires Inv-loop μ-loop
 get64-requires c κs = search needs
@@ -57,10 +63,10 @@ loop-again c =
     let up = c .before in
     let moment = up .before .before in
     let value = moment .before .before in
-    let turn = value .before .before in
+    let turn = value .before .before .before in
     let start = turn .before .before in
     let a = start .args in (
-      values-next (turn .loop .p) (turn .loop .left) (a .at) (a .own) (now (a .s)) (turn .loop .inv .0) (value .before .loop-test .taken) (turn .loop .inv .1) (start .pre)
+      values-next (turn .loop .p) (turn .loop .left) (a .at) (a .own) (now (a .s)) (turn .loop .inv .0) (value .before .before .loop-test .taken) (turn .loop .inv .1) (start .pre)
           (value .get32 .ensures .0) (moment .before .if1 .left) (moment .get64 .ensures) (up .before .if2 .left) (up .is-upward .ensures) (c .if3 .left),
       omega arith,
     )
@@ -76,10 +82,12 @@ values-are-sound-spec =
     μ-loop
     loop-holds
     sub-left
-    add-get32
+    add-unit
+    sub-unit
+    part-unit-start
+    part-unit-end
     get32-requires
     returns
-    add-get64
     get64-requires
     returns-2
     is-upward-requires
