@@ -21,7 +21,7 @@ use Rattle.region.specs.Opening.{kindByte}
 use Rattle.region.specs.Store.{roomAt}
 use Rattle.audit.specs.declared.Left.{Left}
 use Rattle.audit.specs.Whole.{markOf, leftAt, usedUnits, usedFine, headerFine}
-use Rattle.audit.proofs.Octets.{Octets, bytes-part, part-number, part-both, part-front, part-back}
+use Rattle.content.proofs.Octets.{Octets, bytes-part, part-number, part-both, part-front, part-back}
 
 -- the tests of a header, one by one
 pub record HeaderFine (k : Kind) (s : List ℕ) : Type 0 where

@@ -1,8 +1,4 @@
-pub mod Joins
-pub mod Accepted
 pub mod Wells
-pub mod Octets
-pub mod Holdings
 pub mod Written
 pub mod Turns
 pub mod RowTests
@@ -11,8 +7,6 @@ pub mod Shapes
 pub mod Sound
 pub mod Headers
 pub mod Stores
-pub mod UnitLaws
-pub mod LevelLaws
 pub mod RowLaws
 pub mod Passes
 pub mod WholeLaws

@@ -18,9 +18,10 @@ use Rattle.region.specs.Layout.{levelUnits, rowUnits, headBytes, levelBytes}
 use Rattle.region.specs.Decode.{unitsTo}
 use Rattle.region.specs.declared.Kind.{Kind}
 use Rattle.forest.specs.Places.{unitAt, lenAt, ownAt, belowAt, levelUnitsAt, rowEnd, kidsEnd, levelIn, ownIn}
-use Rattle.audit.specs.Tests.{every, ownFine, heldAt, endAt, pastAt, marksFine, fillFine}
-use Rattle.audit.proofs.Octets.{Octets, octets-drop, octets-part, bytes-part, part-number, part-both, part-front, part-back, every-is, is-every, units-length, units-take}
-use Rattle.audit.proofs.Holdings.{Holding}
+use Rattle.content.specs.Contents.{every, ownFine}
+use Rattle.audit.specs.Tests.{heldAt, endAt, pastAt, marksFine, fillFine}
+use Rattle.content.proofs.Octets.{Octets, octets-drop, octets-part, bytes-part, part-number, part-both, part-front, part-back, every-is, is-every, units-length, units-take}
+use Rattle.content.proofs.Holdings.{Holding}
 use Rattle.audit.proofs.Written.{RowHere}
 
 -- a number of two bytes

@@ -29,9 +29,10 @@ use Rattle.audit.specs.declared.Tally.{Tally}
 use Rattle.audit.specs.declared.Tally.the-variants.{Sound, Unsound}
 use Rattle.audit.specs.Tally.{taken}
 use Rattle.audit.specs.Heads.{HeadAt}
-use Rattle.audit.specs.Tests.{every, levelFine, plainTo, ownFine, endAt, mayHold, shapeFine, less, follows, marksFine, fillFine, writtenFine, textFine, placedFine}
-use Rattle.audit.proofs.UnitLaws.{from-part}
-use Rattle.audit.proofs.LevelLaws.{short-fine}
+use Rattle.content.specs.Contents.{every, levelFine, plainTo, ownFine}
+use Rattle.audit.specs.Tests.{endAt, mayHold, shapeFine, less, follows, marksFine, fillFine, writtenFine, textFine, placedFine}
+use Rattle.content.proofs.UnitLaws.{from-part}
+use Rattle.content.proofs.LevelLaws.{short-fine}
 
 -- the head
 pub head-is : (base i n : ℕ) (s : List ℕ) → i < n → unitAt base n ≤ length s → {a b c e : ℕ}

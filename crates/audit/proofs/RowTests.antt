@@ -18,7 +18,8 @@ use Rattle.region.specs.Layout.{levelUnits, rowUnits, headBytes, levelBytes}
 use Rattle.region.specs.Decode.{unitsTo}
 use Rattle.region.specs.declared.Kind.{Kind}
 use Rattle.forest.specs.Places.{unitAt, lenAt, ownAt, belowAt, levelUnitsAt, rowEnd, kidsEnd, levelIn, ownIn}
-use Rattle.audit.specs.Tests.{every, levelFine, ownFine, heldAt, endAt, pastAt, shapeFine, marksFine, fillFine, orderFine, writtenFine, textFine, placedFine, nodeFine}
+use Rattle.content.specs.Contents.{every, levelFine, ownFine}
+use Rattle.audit.specs.Tests.{heldAt, endAt, pastAt, shapeFine, marksFine, fillFine, orderFine, writtenFine, textFine, placedFine, nodeFine}
 
 -- the tests of a node, one by one
 pub record Tested (k : Kind) (base : ℕ) (s : List ℕ) (d room i n : ℕ) : Type 0 where

@@ -23,8 +23,8 @@ use Rattle.audit.specs.declared.Tally.the-variants.{Sound, Unsound}
 use Rattle.audit.specs.Tests.{endAt, pastAt, nodeFine}
 use Rattle.audit.specs.Tally.{onSound, taken, tally}
 use Rattle.audit.specs.Fine.{Follows, NodeFine, Fine, Audited}
-use Rattle.audit.proofs.Octets.{Octets}
-use Rattle.audit.proofs.Holdings.{Holding}
+use Rattle.content.proofs.Octets.{Octets}
+use Rattle.content.proofs.Holdings.{Holding}
 use Rattle.audit.proofs.Written.{WrittenAt, RowHere, fork-yes, fork-no}
 use Rattle.audit.proofs.Turns.{tally-none, tally-some, Took, took, takes, sound-is, unsound-not}
 use Rattle.audit.proofs.RowTests.{Tested, tested, passed}

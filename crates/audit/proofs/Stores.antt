@@ -32,15 +32,16 @@ use Rattle.audit.specs.declared.Left.{Left}
 use Rattle.audit.specs.declared.Tally.{Tally}
 use Rattle.audit.specs.declared.Tally.the-variants.{Sound, Unsound}
 use Rattle.audit.specs.Tally.{tally}
-use Rattle.audit.specs.Fine.{rulesOf, TextFine, Fine, Audited}
+use Rattle.content.specs.Texts.{rulesOf, TextFine}
+use Rattle.audit.specs.Fine.{Fine, Audited}
 use Rattle.audit.specs.Whole.{leftAt, usedUnits, unitsBase, none, allTaken, headerFine, storeFine}
 use Rattle.audit.specs.Decides.{StoreOf, Decides}
-use Rattle.audit.proofs.Octets.{Octets}
-use Rattle.audit.proofs.Holdings.{Holding, held-values, held-records}
+use Rattle.content.proofs.Octets.{Octets}
+use Rattle.content.proofs.Holdings.{Holding, held-values, held-records}
 use Rattle.audit.proofs.Sound.{audit-sound, audit-passes}
 use Rattle.audit.proofs.Headers.{HeaderFine, header-yes, header-no, header-bytes, mark-back, nodes-back, pairs-back, cells-back, units-back}
 use Rattle.audit.proofs.Wells.{fine-rows, fine-ends, fine-owns, fine-full, fine-texts, fine-starts, wells-fine, names-end, held-path, held-hash}
-use Rattle.audit.proofs.Accepted.{text-levels, levels-text, accepted-text, text-accepted}
+use Rattle.content.proofs.Accepted.{text-levels, levels-text, accepted-text, text-accepted}
 
 abbrev nothing : Left
 nothing = record { nodes = 0; pairs = 0; cells = 0 }

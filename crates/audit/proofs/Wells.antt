@@ -19,8 +19,9 @@ use Rattle.held.proofs.Entries.{all-map, all-with}
 use Rattle.held.proofs.Orders.{and-right}
 use Rattle.region.specs.declared.Kind.{Kind}
 use Rattle.region.specs.declared.Kind.the-variants.{Retained}
-use Rattle.audit.specs.Tests.{levelFine}
-use Rattle.audit.specs.Fine.{TextFine, Follows, NodeFine, Fine}
+use Rattle.content.specs.Contents.{levelFine}
+use Rattle.content.specs.Texts.{TextFine}
+use Rattle.audit.specs.Fine.{Follows, NodeFine, Fine}
 
 -- all of two lists, and of a list that was mapped
 module _ {E : Type 0} (P : E → Type 0) where

@@ -27,7 +27,7 @@ use Rattle.audit.specs.declared.Tally.{Tally}
 use Rattle.audit.specs.Tally.{tally}
 use Rattle.audit.specs.Whole.{markOf, leftAt, usedUnits, unitsBase, none, allTaken, usedFine, headerFine, storeFine}
 use Rattle.audit.specs.Decides.{StoreOf, Decides}
-use Rattle.audit.proofs.Octets.{Octets}
+use Rattle.content.proofs.Octets.{Octets}
 use Rattle.audit.proofs.Headers.{HeaderFine, header-yes}
 use Rattle.audit.proofs.Stores.{decided}
 

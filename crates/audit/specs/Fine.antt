@@ -1,31 +1,19 @@
 -- FOR THE PROOFS. What the pass over the rows finds out of the forest in them, node by node. Assumes nothing.
 use mathlib.Core.Path.{_≡_}
 use Prim.Native.Nat.{ℕ, _+_, _-_, _*_, _≤_, _<_}
-use mathlib.Core.Bool.{Bool, true}
-use mathlib.Core.List.{List, [], _∷_}
+use mathlib.Core.Bool.{true}
+use mathlib.Core.List.{List, []}
 use lib.ListN.{length}
 use Rattle.level.specs.Kinds.{isOnly}
 use Rattle.lent.specs.Parts.{part}
-use Rattle.topic.specs.Rules.{Rule, filterRules, nameRules}
-use Rattle.held.specs.Order.{Level, Filter, levelLt}
+use Rattle.held.specs.Order.{Level, levelLt}
 use Rattle.held.specs.Forest.{Forest, leaf, fork, held}
 use Rattle.held.specs.Edit.{sizeF, cellsF}
 use Rattle.region.specs.Layout.{unitsF, unitBytes, marksOf}
 use Rattle.region.specs.declared.Kind.{Kind}
-use Rattle.region.specs.declared.Kind.the-variants.{Subscriptions, Retained}
 use Rattle.forest.specs.Places.{unitAt}
 use Rattle.audit.specs.declared.Left.{Left}
-use Rattle.audit.specs.Tests.{levelFine}
-
--- the rules of a kind's texts
-abbrev pub rulesOf : Kind → List ℕ → List Rule
-rulesOf Subscriptions = filterRules
-rulesOf Retained = nameRules
-
--- levels from depth d on, with `room` bytes left, a '/' after each
-abbrev pub TextFine : Kind → (d room : ℕ) → Filter → Type 0
-TextFine k d room [] = Unit {0}
-TextFine k d room (l ∷ f) = (d ≤ 128) × (levelFine k l ≡ true) × (length l < room) × TextFine k (d + 1) (room - (length l + 1)) f
+use Rattle.content.specs.Contents.{levelFine}
 
 -- the next node of a row, if there is one, has a later level
 abbrev pub Follows : {X : Type 0} → Level → Forest X → Type 0

@@ -1,7 +1,5 @@
 // The test of a region: whether it is a store. One pass over its units decides it.
-mod levels;
 mod rows;
-mod units;
 mod whole;
 
 pub use whole::is_store;

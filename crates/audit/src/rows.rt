@@ -10,10 +10,6 @@ ghost use Rattle.audit.specs.Tally.{taken, tally};
 use crate::Head;
 use crate::Left;
 use crate::Tally;
-use crate::levels::is_short_plain;
-use crate::levels::level_is_sound;
-use crate::units::all_are;
-use crate::units::own_is_sound;
 use forest::Order;
 use region::Kind;
 
@@ -66,7 +62,7 @@ fn marks_are_sound(s: &[u8], d: usize, i: usize, end: usize) -> bool
     if wide(s[at]) != d {
         return false;
     }
-    all_are(s, 255, at + 1, MARKS + end)
+    content::all_are(s, 255, at + 1, MARKS + end)
 }
 
 // The row at unit i is written as it is read: its head, its marks, and what it holds.
@@ -89,7 +85,7 @@ fn row_is_written(
     if !marks_are_sound(s, d, i, held + head.own) {
         return false;
     }
-    own_is_sound(s, kind, base + held * 16, head.own)
+    content::own_is_sound(s, kind, base + held * 16, head.own)
 }
 
 // The level of the row, and what fills its last unit. A short plain level is seen at once with its fill.
@@ -99,15 +95,15 @@ fn text_is_sound(s: &[u8], base: usize, kind: Kind, i: usize, n: usize, head: He
 {
     let from = base + i * 16 + 8;
     if head.len <= 8 {
-        if is_short_plain(&s[from..from + 8], head.len) {
+        if content::is_short_plain(&s[from..from + 8], head.len) {
             return true;
         }
     }
     let to = base + (i + (head.len + 23) / 16) * 16;
-    if !all_are(s, 0, from + head.len, to) {
+    if !content::all_are(s, 0, from + head.len, to) {
         return false;
     }
-    level_is_sound(level_of(s, base, i, n, head), kind)
+    content::level_is_sound(level_of(s, base, i, n, head), kind)
 }
 
 // A blank first level holds nothing: it would be the empty text.
