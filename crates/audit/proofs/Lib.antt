@@ -1,5 +1,5 @@
 pub mod Wells
-pub mod Written
+pub mod Down
 pub mod Turns
 pub mod RowTests
 pub mod RowBytes

@@ -22,7 +22,7 @@ use Rattle.content.specs.Contents.{every, ownFine}
 use Rattle.audit.specs.Tests.{heldAt, endAt, pastAt, marksFine, fillFine}
 use Rattle.content.proofs.Octets.{Octets, octets-drop, octets-part, bytes-part, part-number, part-both, part-front, part-back, every-is, is-every, units-length, units-take}
 use Rattle.content.proofs.Holdings.{Holding}
-use Rattle.audit.proofs.Written.{RowHere}
+use Rattle.audit.proofs.Down.{RowHere}
 
 -- a number of two bytes
 pub number-small : (p : ℕ) (s : List ℕ) → Octets s → p + 2 ≤ length s → be (part p 2 s) < 65536

@@ -25,7 +25,7 @@ use Rattle.audit.specs.Tally.{onSound, taken, tally}
 use Rattle.audit.specs.Fine.{Follows, NodeFine, Fine, Audited}
 use Rattle.content.proofs.Octets.{Octets}
 use Rattle.content.proofs.Holdings.{Holding}
-use Rattle.audit.proofs.Written.{WrittenAt, RowHere, fork-yes, fork-no}
+use Rattle.audit.proofs.Down.{WrittenAt, RowHere, fork-yes, fork-no}
 use Rattle.audit.proofs.Turns.{tally-none, tally-some, Took, took, takes, sound-is, unsound-not}
 use Rattle.audit.proofs.RowTests.{Tested, tested, passed}
 use Rattle.audit.proofs.RowBytes.{own-length, level-length, end-is, past-is, row-here, len-back, below-back, spare-back, past-back, fill-back, holds-back, marks-back}

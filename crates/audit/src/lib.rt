@@ -1,6 +1,8 @@
 // The test of a region: whether it is a store. One pass over its units decides it.
+mod placed;
 mod rows;
 mod whole;
+mod written;
 
 pub use whole::is_store;
 

@@ -11,12 +11,12 @@ use borrow.Fn.PlainCycle.{Measures, is, falls, and}
 use Rattle.audit.proofs.rows.audit_rows.Reads as audit-rows
 use Rattle.audit.proofs.rows.audit_rows.Kinds as audit-rows-kinds
 use Rattle.audit.proofs.rows.+audit_rows.Lts-audit_rows as audit-rows-lts
-use Rattle.audit.proofs.rows.head_at.Reads as head-at-reads
-use Rattle.audit.proofs.rows.level_of.Reads as level-of-reads
-use Rattle.audit.proofs.rows.row_is_placed.Reads as row-is-placed-reads
-use Rattle.audit.proofs.rows.row_is_written.Reads as row-is-written-reads
+use Rattle.audit.proofs.written.head_at.Reads as head-at-reads
+use Rattle.audit.proofs.written.level_of.Reads as level-of-reads
+use Rattle.audit.proofs.placed.row_is_placed.Reads as row-is-placed-reads
+use Rattle.audit.proofs.written.row_is_written.Reads as row-is-written-reads
 use Rattle.audit.proofs.rows.take_node.Reads as take-node-reads
-use Rattle.audit.proofs.rows.text_is_sound.Reads as text-is-sound-reads
+use Rattle.audit.proofs.written.text_is_sound.Reads as text-is-sound-reads
 use Rattle.audit.proofs.rows.+audit_rows.{statement}
 use Rattle.audit.proofs.rows.+audit_rows.Tie.{close}
 

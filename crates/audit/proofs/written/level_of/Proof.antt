@@ -1,8 +1,8 @@
--- `audit::rows::level_of` meets its contract. Assumes nothing.
+-- `audit::written::level_of` meets its contract. Assumes nothing.
 use borrow.Author.Needs.{needs}
 use Rattle.audit.proofs.RowLaws.{level-of-row}
-use Rattle.audit.proofs.rows.level_of.Statement.{statement}
-use Rattle.audit.proofs.rows.level_of.Tie as tie
+use Rattle.audit.proofs.written.level_of.Statement.{statement}
+use Rattle.audit.proofs.written.level_of.Tie as tie
 
 mul-from : tie.Need-mul-from
 mul-from c = search needs

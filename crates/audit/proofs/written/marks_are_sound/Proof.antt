@@ -1,8 +1,8 @@
--- `audit::rows::marks_are_sound` meets its contract. Assumes nothing.
+-- `audit::written::marks_are_sound` meets its contract. Assumes nothing.
 use borrow.Author.Needs.{needs}
 use Rattle.audit.proofs.RowLaws.{mark-wrong, mark-right}
-use Rattle.audit.proofs.rows.marks_are_sound.Statement.{statement}
-use Rattle.audit.proofs.rows.marks_are_sound.Tie as tie
+use Rattle.audit.proofs.written.marks_are_sound.Statement.{statement}
+use Rattle.audit.proofs.written.marks_are_sound.Tie as tie
 
 add-at : tie.Need-add-at
 add-at c = search needs

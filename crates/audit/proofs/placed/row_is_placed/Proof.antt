@@ -1,8 +1,8 @@
--- `audit::rows::row_is_placed` meets its contract. Assumes nothing.
+-- `audit::placed::row_is_placed` meets its contract. Assumes nothing.
 use borrow.Author.Needs.{needs}
 use Rattle.audit.proofs.RowLaws.{placed-shape, placed-last}
-use Rattle.audit.proofs.rows.row_is_placed.Statement.{statement}
-use Rattle.audit.proofs.rows.row_is_placed.Tie as tie
+use Rattle.audit.proofs.placed.row_is_placed.Statement.{statement}
+use Rattle.audit.proofs.placed.row_is_placed.Tie as tie
 
 shape-is-sound-requires : tie.Need-shape-is-sound-requires
 shape-is-sound-requires c κs = search needs

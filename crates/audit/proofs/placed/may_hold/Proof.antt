@@ -1,8 +1,8 @@
--- `audit::rows::may_hold` meets its contract. Assumes nothing.
+-- `audit::placed::may_hold` meets its contract. Assumes nothing.
 use borrow.Author.Needs.{needs}
 use Rattle.audit.proofs.RowLaws.{first-level, later-level}
-use Rattle.audit.proofs.rows.may_hold.Statement.{statement}
-use Rattle.audit.proofs.rows.may_hold.Tie as tie
+use Rattle.audit.proofs.placed.may_hold.Statement.{statement}
+use Rattle.audit.proofs.placed.may_hold.Tie as tie
 
 returns : tie.Need-returns
 returns c = search (needs, first-level)

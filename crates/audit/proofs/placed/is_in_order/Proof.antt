@@ -1,8 +1,8 @@
--- `audit::rows::is_in_order` meets its contract. Assumes nothing.
+-- `audit::placed::is_in_order` meets its contract. Assumes nothing.
 use borrow.Author.Needs.{needs}
 use Rattle.audit.proofs.RowLaws.{follows-none, follows-some}
-use Rattle.audit.proofs.rows.is_in_order.Statement.{statement}
-use Rattle.audit.proofs.rows.is_in_order.Tie as tie
+use Rattle.audit.proofs.placed.is_in_order.Statement.{statement}
+use Rattle.audit.proofs.placed.is_in_order.Tie as tie
 
 returns : tie.Need-returns
 returns c = search (needs, follows-none)

@@ -1,8 +1,8 @@
--- `audit::rows::shape_is_sound` meets its contract. Assumes nothing.
+-- `audit::placed::shape_is_sound` meets its contract. Assumes nothing.
 use borrow.Author.Needs.{needs}
 use Rattle.audit.proofs.RowLaws.{shape-bare, shape-leaf, shape-hash, shape-way, shape-both}
-use Rattle.audit.proofs.rows.shape_is_sound.Statement.{statement}
-use Rattle.audit.proofs.rows.shape_is_sound.Tie as tie
+use Rattle.audit.proofs.placed.shape_is_sound.Statement.{statement}
+use Rattle.audit.proofs.placed.shape_is_sound.Tie as tie
 
 returns : tie.Need-returns
 returns c = search (needs, shape-bare)

@@ -1,8 +1,8 @@
--- `audit::rows::row_is_written` meets its contract. Assumes nothing.
+-- `audit::written::row_is_written` meets its contract. Assumes nothing.
 use borrow.Author.Needs.{needs}
 use Rattle.audit.proofs.RowLaws.{written-spare, written-marks, written-last}
-use Rattle.audit.proofs.rows.row_is_written.Statement.{statement}
-use Rattle.audit.proofs.rows.row_is_written.Tie as tie
+use Rattle.audit.proofs.written.row_is_written.Statement.{statement}
+use Rattle.audit.proofs.written.row_is_written.Tie as tie
 
 returns : tie.Need-returns
 returns c = search (needs, written-spare)

@@ -1,8 +1,8 @@
--- `audit::rows::head_at` meets its contract. Assumes nothing.
+-- `audit::written::head_at` meets its contract. Assumes nothing.
 use borrow.Author.Needs.{needs}
 use Rattle.audit.proofs.RowLaws.{head-is}
-use Rattle.audit.proofs.rows.head_at.Statement.{statement}
-use Rattle.audit.proofs.rows.head_at.Tie as tie
+use Rattle.audit.proofs.written.head_at.Statement.{statement}
+use Rattle.audit.proofs.written.head_at.Tie as tie
 
 mul-at : tie.Need-mul-at
 mul-at c = search needs

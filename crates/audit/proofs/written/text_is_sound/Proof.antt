@@ -1,8 +1,8 @@
--- `audit::rows::text_is_sound` meets its contract. Assumes nothing.
+-- `audit::written::text_is_sound` meets its contract. Assumes nothing.
 use borrow.Author.Needs.{needs}
 use Rattle.audit.proofs.RowLaws.{text-plain, text-fill, text-last}
-use Rattle.audit.proofs.rows.text_is_sound.Statement.{statement}
-use Rattle.audit.proofs.rows.text_is_sound.Tie as tie
+use Rattle.audit.proofs.written.text_is_sound.Statement.{statement}
+use Rattle.audit.proofs.written.text_is_sound.Tie as tie
 
 mul-from : tie.Need-mul-from
 mul-from c = search needs
