@@ -1,6 +1,6 @@
 -- A forest is written down from a unit on exactly when its first row is, and what is below it and behind it. Assumes nothing.
-use mathlib.Core.Path.{_≡_, refl, sym, ap, subst, _∙_}
-use Prim.Native.Nat.{ℕ, suc, _+_, _-_, _*_, _/_, _≤_, _<_}
+use mathlib.Core.Path.{_≡_, refl}
+use Prim.Native.Nat.{ℕ, _+_, _-_, _*_}
 use mathlib.Core.List.{List, [], _∷_, _++_}
 use native.Mathlib.Omega.{arith}
 use lib.ListN.{length, replicate, length-append, length-replicate}
@@ -10,7 +10,7 @@ use Rattle.held.specs.Bytes.{each}
 use Rattle.held.specs.Forest.{Forest, leaf, fork}
 use Rattle.region.specs.Layout.{levelUnits, rowUnits, unitsF, headBytes, levelBytes, rowBytes, unitBytes, marksOf}
 use Rattle.region.specs.Forms.{Form}
-use Rattle.region.proofs.Decoded.{length-head, length-level, length-each, length-row, length-units}
+use Rattle.region.proofs.Decoded.{length-head, length-level, length-row, length-units}
 use Rattle.forest.specs.Places.{unitAt}
 use Rattle.content.proofs.Octets.{part-both, part-front, part-back}
 

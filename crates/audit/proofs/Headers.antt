@@ -1,8 +1,8 @@
 -- The header of a region: its tests one by one, and the bytes that it is written as. Assumes nothing.
-use mathlib.Core.Path.{_≡_, refl, sym, ap, subst, _∙_}
-use Prim.Native.Nat.{ℕ, _+_, _*_, _≤_, _<_}
+use mathlib.Core.Path.{_≡_, refl, sym, ap, _∙_}
+use Prim.Native.Nat.{ℕ, _+_, _≤_, _<_}
 use mathlib.Core.Bool.{Bool, true, false, _&&_, true≢false}
-use mathlib.Core.List.{List, [], _∷_, _++_}
+use mathlib.Core.List.{List, [], _∷_}
 use native.Mathlib.Omega.{arith}
 use native.Mathlib.Nat.{zero-add}
 use lib.Dec.{eqb, leb}
@@ -12,16 +12,14 @@ use Rattle.lent.specs.Numbers.{be, bytes}
 use Rattle.lent.specs.Parts.{part}
 use Rattle.lent.proofs.Parts.{part-part}
 use Rattle.lent.proofs.Digits.{be-bytes}
-use Rattle.held.specs.Room.{Room, inRange}
-use Rattle.held.proofs.Orders.{and-left, and-right}
+use Rattle.held.specs.Room.{inRange}
 use Rattle.region.specs.declared.Kind.{Kind}
 use Rattle.region.specs.declared.Kind.the-variants.{Subscriptions, Retained}
 use Rattle.region.specs.Layout.{unitRoom, neededBytes, Used, headerBytes}
 use Rattle.region.specs.Opening.{kindByte}
 use Rattle.region.specs.Store.{roomAt}
-use Rattle.audit.specs.declared.Left.{Left}
 use Rattle.audit.specs.Whole.{markOf, leftAt, usedUnits, usedFine, headerFine}
-use Rattle.content.proofs.Octets.{Octets, bytes-part, part-number, part-both, part-front, part-back}
+use Rattle.content.proofs.Octets.{Octets, bytes-part, part-number, part-both}
 
 -- the tests of a header, one by one
 pub record HeaderFine (k : Kind) (s : List ℕ) : Type 0 where

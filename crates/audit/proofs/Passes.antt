@@ -1,7 +1,7 @@
 -- A turn of the pass over the rows, as the code makes it. Assumes nothing.
-use mathlib.Core.Path.{_≡_, refl, sym, ap, subst, _∙_}
-use Prim.Native.Nat.{ℕ, _+_, _-_, _*_, _/_, _≤_, _<_}
-use mathlib.Core.Bool.{Bool, true, false, not, cond, _&&_}
+use mathlib.Core.Path.{_≡_, sym, _∙_}
+use Prim.Native.Nat.{ℕ, _+_, _-_, _/_, _≤_, _<_}
+use mathlib.Core.Bool.{Bool, true, false, not, cond}
 use mathlib.Core.List.{List}
 use native.Mathlib.Omega.{arith}
 use lib.Dec.{ltb, leb}
@@ -9,7 +9,7 @@ use lib.ListN.{length}
 use borrow.Author.Tests.{lt-ltb, le-ltb, le-leb, lt-leb, not-false, not-true}
 use Rattle.held.specs.Order.{Level}
 use Rattle.region.specs.declared.Kind.{Kind}
-use Rattle.forest.specs.Places.{unitAt, lenAt, ownAt, belowAt, rowEnd, kidsEnd, levelIn}
+use Rattle.forest.specs.Places.{unitAt, lenAt, ownAt, rowEnd, kidsEnd, levelIn}
 use Rattle.audit.specs.declared.Head.{Head}
 use Rattle.audit.specs.declared.Left.{Left}
 use Rattle.audit.specs.declared.Tally.{Tally}

@@ -1,17 +1,16 @@
 -- A row whose tests pass is written as what is read from it, and the other way round. Assumes nothing.
 use mathlib.Core.Path.{_≡_, refl, sym, ap, subst, _∙_}
-use Prim.Native.Nat.{ℕ, suc, _+_, _-_, _*_, _/_, _^_, _≤_, _<_, min}
-use mathlib.Core.Bool.{Bool, true, false, _&&_}
+use Prim.Native.Nat.{ℕ, _+_, _-_, _*_, _^_, _≤_, _<_, min}
+use mathlib.Core.Bool.{true}
 use mathlib.Core.List.{List, [], _∷_, _++_}
 use native.Mathlib.Omega.{arith}
 use lib.Dec.{eqb}
-use lib.ListN.{length, take, drop, getD, replicate, length-take, length-drop, length-replicate}
+use lib.ListN.{length, take, drop, getD, replicate, length-take, length-drop}
 use borrow.Author.Tests.{eqb-true, eq-eqb}
 use Rattle.lent.specs.Numbers.{be, bytes}
 use Rattle.lent.specs.Parts.{part}
 use Rattle.lent.proofs.Parts.{part-eq, length-part}
 use Rattle.lent.proofs.Digits.{be-bytes, be-lt, length-bytes, part-one}
-use Rattle.held.specs.Order.{Level}
 use Rattle.held.specs.Bytes.{each}
 use Rattle.held.proofs.Orders.{and-left, and-right}
 use Rattle.region.specs.Layout.{levelUnits, rowUnits, headBytes, levelBytes}

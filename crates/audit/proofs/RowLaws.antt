@@ -1,16 +1,14 @@
 -- The tests of a row, as the code makes them. Assumes nothing.
-use mathlib.Core.Path.{_≡_, refl, sym, ap, subst, _∙_}
+use mathlib.Core.Path.{_≡_, refl, sym, ap, _∙_}
 use Prim.Native.Nat.{ℕ, suc, _+_, _-_, _*_, _/_, _%_, _≤_, _<_, min}
 use mathlib.Core.Bool.{Bool, true, false, not, cond, _&&_, _||_, and-true}
 use mathlib.Core.List.{List, [], _∷_}
 use native.Mathlib.Omega.{arith}
 use native.Mathlib.Nat.{add-zero}
-use lib.Dec.{eqb, ltb}
+use lib.Dec.{eqb}
 use lib.ListN.{length, take, drop, getD}
 use borrow.Author.Tests.{eq-eqb, ne-eqb, lt-ltb, le-ltb, le-leb, lt-leb, not-false, not-true}
 use Rattle.level.specs.Kinds.{blank, isOnly, same}
-use Rattle.level.proofs.KindLaws.{blank-none, blank-some}
-use Rattle.lent.specs.Numbers.{be}
 use Rattle.lent.specs.Parts.{part}
 use Rattle.lent.specs.Total.{read}
 use Rattle.lent.proofs.Parts.{part-eq, take-part, drop-part}
@@ -20,12 +18,11 @@ use Rattle.held.specs.Room.{levelCells}
 use Rattle.held.proofs.Orders.{level-order, eq-lower}
 use Rattle.region.specs.declared.Kind.{Kind}
 use Rattle.forest.specs.declared.Order.{Order}
-use Rattle.forest.specs.declared.Order.the-variants.{Less, Equal, Greater}
+use Rattle.forest.specs.declared.Order.the-variants.{Equal, Greater}
 use Rattle.forest.specs.Compare.{orderOf}
 use Rattle.forest.specs.Places.{unitAt, lenAt, ownAt, belowAt, levelIn}
 use Rattle.audit.specs.declared.Head.{Head}
 use Rattle.audit.specs.declared.Left.{Left}
-use Rattle.audit.specs.declared.Tally.{Tally}
 use Rattle.audit.specs.declared.Tally.the-variants.{Sound, Unsound}
 use Rattle.audit.specs.Tally.{taken}
 use Rattle.audit.specs.Heads.{HeadAt}

@@ -1,24 +1,17 @@
 -- The tests of a row, one by one, and what each says of the row where nothing of it is cut off. Assumes nothing.
-use mathlib.Core.Path.{_≡_, refl, sym, ap, subst, _∙_}
-use Prim.Native.Nat.{ℕ, suc, _+_, _-_, _*_, _/_, _^_, _≤_, _<_, min}
-use mathlib.Core.Bool.{Bool, true, false, not, cond, _&&_, _||_, true≢false}
-use mathlib.Core.List.{List, [], _∷_, _++_}
-use native.Mathlib.Omega.{arith}
+use mathlib.Core.Path.{_≡_, refl, sym}
+use Prim.Native.Nat.{ℕ, _+_, _≤_, _<_}
+use mathlib.Core.Bool.{Bool, true, false, _&&_, true≢false}
+use mathlib.Core.List.{List}
 use lib.Dec.{eqb, ltb, leb}
-use lib.ListN.{length, take, drop, getD, replicate, length-take, length-drop, length-replicate}
+use lib.ListN.{drop}
 use borrow.Author.Tests.{eqb-true, eq-eqb, ltb-true, lt-ltb, leb-true, le-leb}
-use Rattle.lent.specs.Numbers.{be, bytes}
+use Rattle.lent.specs.Numbers.{be}
 use Rattle.lent.specs.Parts.{part}
-use Rattle.lent.proofs.Parts.{part-eq, length-part}
-use Rattle.lent.proofs.Digits.{be-bytes, be-lt, length-bytes, part-one}
-use Rattle.held.specs.Order.{Level}
-use Rattle.held.specs.Bytes.{each}
 use Rattle.held.proofs.Orders.{and-left, and-right}
-use Rattle.region.specs.Layout.{levelUnits, rowUnits, headBytes, levelBytes}
-use Rattle.region.specs.Decode.{unitsTo}
 use Rattle.region.specs.declared.Kind.{Kind}
-use Rattle.forest.specs.Places.{unitAt, lenAt, ownAt, belowAt, levelUnitsAt, rowEnd, kidsEnd, levelIn, ownIn}
-use Rattle.content.specs.Contents.{every, levelFine, ownFine}
+use Rattle.forest.specs.Places.{unitAt, lenAt, ownAt, belowAt, levelIn}
+use Rattle.content.specs.Contents.{levelFine, ownFine}
 use Rattle.audit.specs.Tests.{heldAt, endAt, pastAt, shapeFine, marksFine, fillFine, orderFine, writtenFine, textFine, placedFine, nodeFine}
 
 -- the tests of a node, one by one

@@ -1,20 +1,20 @@
 -- The tests of a node's place in the forest: what it has, and what follows it in its row. Assumes nothing.
 use mathlib.Core.Path.{_≡_, refl, sym, ap, subst, _∙_}
-use Prim.Native.Nat.{ℕ, suc, _+_, _-_, _*_, _/_, _≤_, _<_}
+use Prim.Native.Nat.{ℕ, suc, _≤_, _<_}
 use mathlib.Core.Bool.{Bool, true, false, not, cond, _&&_, _||_, true≢false}
 use mathlib.Core.Logic.{⊎-elim}
 use mathlib.Core.List.{List, [], _∷_}
 use native.Mathlib.Omega.{arith}
-use lib.Dec.{eqb, ltb}
+use lib.Dec.{eqb}
 use lib.ListN.{length}
 use borrow.Author.Tests.{eqb-true, eq-eqb, ne-eqb, lt-ltb, le-ltb}
 use Rattle.level.specs.Kinds.{blank, isOnly}
 use Rattle.lent.proofs.Anywhere.{lt-or-ge}
-use Rattle.held.specs.Order.{Level, levelLt}
+use Rattle.held.specs.Order.{Level}
 use Rattle.held.specs.Forest.{Forest, leaf, fork}
 use Rattle.held.proofs.Orders.{and-left, and-right}
 use Rattle.region.specs.Layout.{unitsF}
-use Rattle.forest.specs.Places.{unitAt, forestIn, levelIn, ownIn, rowEnd, kidsEnd}
+use Rattle.forest.specs.Places.{unitAt, forestIn, levelIn}
 use Rattle.forest.proofs.FirstRow.{forest-none, forest-some}
 use Rattle.audit.specs.Tests.{pastAt, shapeFine, follows, orderFine}
 use Rattle.audit.specs.Fine.{Follows}

@@ -1,17 +1,17 @@
 -- The pass over the rows finds them sound exactly when the forest in them is written down there and fine, and takes its
 -- counts from what was left. Assumes nothing.
 use mathlib.Core.Path.{_≡_, refl, sym, ap, subst, _∙_}
-use Prim.Native.Nat.{ℕ, zero, suc, _+_, _-_, _*_, _/_, _≤_, _<_}
+use Prim.Native.Nat.{ℕ, zero, suc, _+_, _-_, _≤_, _<_}
 use mathlib.Core.Bool.{Bool, true, false, cond}
 use mathlib.Core.Logic.{⊎-elim}
-use mathlib.Core.List.{List, [], _∷_, _++_, map}
+use mathlib.Core.List.{List}
 use native.Mathlib.Omega.{arith}
 use lib.ListN.{length, length-append, length-map}
 use Rattle.lent.specs.Parts.{part}
 use Rattle.lent.proofs.Anywhere.{lt-or-ge}
 use Rattle.held.specs.Order.{Level}
 use Rattle.held.specs.Room.{levelCells}
-use Rattle.held.specs.Forest.{Forest, leaf, fork, held, under}
+use Rattle.held.specs.Forest.{Forest, leaf, fork, held}
 use Rattle.held.specs.Edit.{weighF, sizeF, cellsF}
 use Rattle.region.specs.Layout.{rowUnits, unitsF, unitBytes, marksOf}
 use Rattle.region.specs.declared.Kind.{Kind}
@@ -22,13 +22,13 @@ use Rattle.audit.specs.declared.Tally.{Tally}
 use Rattle.audit.specs.declared.Tally.the-variants.{Sound, Unsound}
 use Rattle.audit.specs.Tests.{endAt, pastAt, nodeFine}
 use Rattle.audit.specs.Tally.{onSound, taken, tally}
-use Rattle.audit.specs.Fine.{Follows, NodeFine, Fine, Audited}
+use Rattle.audit.specs.Fine.{Follows, Audited}
 use Rattle.content.proofs.Octets.{Octets}
 use Rattle.content.proofs.Holdings.{Holding}
 use Rattle.audit.proofs.Down.{WrittenAt, RowHere, fork-yes, fork-no}
 use Rattle.audit.proofs.Turns.{tally-none, tally-some, Took, took, takes, sound-is, unsound-not}
 use Rattle.audit.proofs.RowTests.{Tested, tested, passed}
-use Rattle.audit.proofs.RowBytes.{own-length, level-length, end-is, past-is, row-here, len-back, below-back, spare-back, past-back, fill-back, holds-back, marks-back}
+use Rattle.audit.proofs.RowBytes.{own-length, level-length, end-is, past-is, row-here, below-back, spare-back, past-back, fill-back, holds-back, marks-back}
 use Rattle.audit.proofs.Shapes.{shape-yes, shape-no, order-yes, order-no}
 
 -- the counts of a forest by its first node

@@ -1,6 +1,6 @@
 -- The test of a region is true exactly of a store. Assumes nothing.
 use mathlib.Core.Path.{_≡_, refl, sym, ap, subst, _∙_}
-use Prim.Native.Nat.{ℕ, _+_, _-_, _*_, _≤_, _<_}
+use Prim.Native.Nat.{ℕ, _-_, _*_, _≤_}
 use mathlib.Core.Bool.{Bool, true, false, _&&_, true≢false}
 use mathlib.Core.List.{List, [], _∷_}
 use native.Mathlib.Omega.{arith}
@@ -9,22 +9,19 @@ use lib.ListN.{length}
 use borrow.Author.Tests.{eqb-true}
 use Rattle.lent.specs.Numbers.{be}
 use Rattle.lent.specs.Parts.{part}
-use Rattle.level.specs.Kinds.{isOnly, wild}
-use Rattle.held.specs.Order.{Level, Filter}
+use Rattle.held.specs.Order.{Filter}
 use Rattle.held.specs.Ascending.{All}
 use Rattle.held.specs.Room.{nodeCount, cellCount}
-use Rattle.held.specs.Retained.{Stored}
-use Rattle.held.specs.Forest.{Forest, leaf, fork, held, HashEnds}
-use Rattle.held.specs.Edit.{WellFormed, WellNamed, Full, sizeF, cellsF, HashLast}
+use Rattle.held.specs.Forest.{Forest, held}
+use Rattle.held.specs.Edit.{HashLast}
 use Rattle.held.proofs.Orders.{and-left, and-right}
 use Rattle.held.proofs.Entries.{all-with, all-both}
 use Rattle.held.proofs.Counts.{node-count, cell-count}
 use Rattle.held.proofs.Bounds.{in-range}
 use Rattle.region.specs.declared.Kind.{Kind}
 use Rattle.region.specs.declared.Kind.the-variants.{Subscriptions, Retained}
-use Rattle.region.specs.Layout.{unitRoom, neededBytes, unitsF, unitBytes}
+use Rattle.region.specs.Layout.{unitRoom, unitsF, unitBytes}
 use Rattle.region.specs.Opening.{kindByte}
-use Rattle.region.specs.Decode.{decode}
 use Rattle.region.specs.Store.{roomAt, forestAt, usedBy, WrittenIn, Accepts, SubscriptionStore, RetainedStore}
 use Rattle.region.proofs.Stores.{units-fit}
 use Rattle.forest.specs.Places.{unitAt, forestIn}
@@ -221,3 +218,9 @@ module _ (s : List ℕ) (o : Octets s) where
 pub decided : (k : Kind) (s : List ℕ) → Octets s → Decides (storeFine k s) (StoreOf k s)
 decided Subscriptions s o = record { yes = λ e. subscriptions-yes s o (kept-yes held-values s o e); no = λ r. kept-no held-values s o (subscriptions-no s o r) }
 decided Retained s o = record { yes = λ e. retained-yes s o (kept-yes held-records s o e); no = λ r. kept-no held-records s o (retained-no s o r) }
+
+-- and it settles the answer: two that decide the same are the same
+pub decided-settled : (P : Type 0) (a b : Bool) → Decides a P → Decides b P → a ≡ b
+decided-settled P true b x y = sym (y .no (x .yes refl))
+decided-settled P false true x y = x .no (y .yes refl)
+decided-settled P false false x y = refl

@@ -1,7 +1,7 @@
 -- The pass over the rows by its first row: the two equations behind which it hides. Assumes nothing.
-use mathlib.Core.Path.{_≡_, refl, sym, ap, _∙_}
-use Prim.Native.Nat.{ℕ, _+_, _-_, _*_, _≤_, _<_}
-use mathlib.Core.Bool.{Bool, true, false, cond, _&&_, true≢false}
+use mathlib.Core.Path.{_≡_, refl, ap}
+use Prim.Native.Nat.{ℕ, _+_, _-_, _≤_, _<_}
+use mathlib.Core.Bool.{Bool, true, false, cond, _&&_}
 use mathlib.Core.List.{List}
 use native.Mathlib.Omega.{arith}
 use lib.Dec.{leb}
@@ -9,11 +9,9 @@ use lib.ListN.{length}
 use borrow.Author.Tests.{le-leb, leb-true}
 use Rattle.held.specs.Order.{Level}
 use Rattle.held.specs.Room.{levelCells}
-use Rattle.held.specs.Forest.{Forest}
 use Rattle.held.proofs.Orders.{and-left, and-right}
 use Rattle.region.specs.declared.Kind.{Kind}
 use Rattle.forest.specs.Places.{unitAt, lenAt, ownAt, rowEnd, kidsEnd, levelIn}
-use Rattle.forest.specs.Stands.{rawIn}
 use Rattle.forest.proofs.FirstRow.{forest-none, forest-some}
 use Rattle.audit.specs.declared.Left.{Left}
 use Rattle.audit.specs.declared.Tally.{Tally}

@@ -1,6 +1,6 @@
 -- A forest is fine, node by node, exactly when it is well formed and what it holds stands under fine texts. Assumes nothing.
-use mathlib.Core.Path.{_≡_, refl, sym, ap, subst, _∙_}
-use Prim.Native.Nat.{ℕ, _+_, _-_, _≤_, _<_}
+use mathlib.Core.Path.{_≡_, refl, sym, _∙_}
+use Prim.Native.Nat.{ℕ, _+_, _-_, _<_}
 use mathlib.Core.Bool.{Bool, true, false, not, _&&_, _||_, true≢false}
 use mathlib.Core.List.{List, [], _∷_, _++_, map}
 use native.Mathlib.Omega.{arith}
@@ -10,7 +10,7 @@ use borrow.Author.Tests.{not-true}
 use Rattle.utf8.specs.Utf8.{isUtf8}
 use Rattle.level.specs.Levels.{has}
 use Rattle.level.specs.Kinds.{isOnly, wild}
-use Rattle.held.specs.Order.{Level, Filter, levelLt}
+use Rattle.held.specs.Order.{Level, Filter}
 use Rattle.held.specs.Ascending.{All}
 use Rattle.held.specs.Forest.{Forest, leaf, fork, held, under, Over, Rows, HashEnds}
 use Rattle.held.specs.Edit.{Owns, Full, HashLast}
@@ -21,7 +21,7 @@ use Rattle.region.specs.declared.Kind.{Kind}
 use Rattle.region.specs.declared.Kind.the-variants.{Retained}
 use Rattle.content.specs.Contents.{levelFine}
 use Rattle.content.specs.Texts.{TextFine}
-use Rattle.audit.specs.Fine.{Follows, NodeFine, Fine}
+use Rattle.audit.specs.Fine.{Follows, Fine}
 
 -- all of two lists, and of a list that was mapped
 module _ {E : Type 0} (P : E → Type 0) where

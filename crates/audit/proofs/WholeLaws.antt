@@ -1,7 +1,7 @@
 -- The test of a whole region, as the code makes it. Assumes nothing.
-use mathlib.Core.Path.{_≡_, refl, sym, ap, subst, _∙_}
-use Prim.Native.Nat.{ℕ, _+_, _*_, _≤_, _<_}
-use mathlib.Core.Bool.{Bool, true, false, not, cond, _&&_}
+use mathlib.Core.Path.{_≡_, refl, sym, ap, _∙_}
+use Prim.Native.Nat.{ℕ, _+_, _≤_, _<_}
+use mathlib.Core.Bool.{Bool, true, false, not, _&&_}
 use mathlib.Core.List.{List}
 use native.Mathlib.Omega.{arith}
 use lib.Dec.{eqb, leb}
@@ -28,7 +28,7 @@ use Rattle.audit.specs.Tally.{tally}
 use Rattle.audit.specs.Whole.{markOf, leftAt, usedUnits, unitsBase, none, allTaken, usedFine, headerFine, storeFine}
 use Rattle.audit.specs.Decides.{StoreOf, Decides}
 use Rattle.content.proofs.Octets.{Octets}
-use Rattle.audit.proofs.Headers.{HeaderFine, header-yes}
+use Rattle.audit.proofs.Headers.{header-yes}
 use Rattle.audit.proofs.Stores.{decided}
 
 module _ (s : List ℕ) (long : 64 ≤ length s) where

@@ -1,6 +1,6 @@
 // The node of a row where it stands: what it has, and what follows it.
 ghost use mathlib.Core.Path.{_≡_};
-ghost use Prim.Native.Nat.{_+_, _*_, _/_, _≤_, _<_};
+ghost use Prim.Native.Nat.{_+_, _/_, _≤_, _<_};
 ghost use lib.ListN.{length};
 ghost use Rattle.forest.specs.Places.{unitAt, levelIn};
 ghost use Rattle.audit.specs.Heads.{HeadAt};

@@ -5,7 +5,7 @@ ghost use lib.ListN.{length};
 ghost use Rattle.region.specs.Layout.{unitRoom};
 ghost use Rattle.region.specs.Opening.{roomOf};
 ghost use Rattle.region.specs.Store.{roomAt};
-ghost use Rattle.audit.specs.Whole.{markOf, leftAt, usedUnits, unitsBase, none, allTaken, usedFine, headerFine, storeFine};
+ghost use Rattle.audit.specs.Whole.{markOf, leftAt, none, allTaken, usedFine, headerFine, storeFine};
 ghost use Rattle.audit.specs.Decides.{StoreOf, Decides};
 use crate::Left;
 use crate::Tally;

@@ -1,17 +1,17 @@
 -- When levels are those of an accepted text: each level is fine, and they are neither too many nor too long. Assumes nothing.
 use mathlib.Core.Path.{_≡_, refl, sym, ap, subst, _∙_}
-use Prim.Native.Nat.{ℕ, suc, _+_, _-_, _≤_, _<_}
-use mathlib.Core.Bool.{Bool, true, false, not, cond, _&&_, true≢false}
-use mathlib.Core.List.{List, [], _∷_, _++_}
+use Prim.Native.Nat.{ℕ, _+_, _-_, _≤_}
+use mathlib.Core.Bool.{Bool, true, false, not, _&&_, true≢false}
+use mathlib.Core.List.{List, [], _∷_}
 use native.Mathlib.Omega.{arith}
 use lib.Dec.{ltb}
 use lib.ListN.{length}
 use borrow.Author.Tests.{le-ltb, ltb-false, not-false}
 use Rattle.utf8.specs.Utf8.{isUtf8}
 use Rattle.level.specs.Levels.{split, join, width, has}
-use Rattle.level.specs.Kinds.{blank, isOnly, wild, bad}
+use Rattle.level.specs.Kinds.{blank, wild, bad}
 use Rattle.level.proofs.Join.{Clean, join-split, split-join, clean-split}
-use Rattle.topic.specs.Rules.{Rule, _gives_, index, textRules, levelRules, filterRules, nameRules}
+use Rattle.topic.specs.Rules.{Rule, _gives_, index, filterRules, nameRules}
 use Rattle.topic.specs.Answers.{checked}
 use Rattle.topic.specs.declared.Checked.the-variants.{Accepted}
 use Rattle.held.specs.Order.{Level, Filter}

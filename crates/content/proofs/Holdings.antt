@@ -1,9 +1,9 @@
 -- What the tests of the units that a node holds say: they are written as what is read from them, and that is in order. Assumes nothing.
-use mathlib.Core.Path.{_≡_, refl, sym, ap, subst, _∙_}
-use Prim.Native.Nat.{ℕ, zero, suc, _+_, _-_, _*_, _≤_, _<_}
-use mathlib.Core.Bool.{Bool, true, false, cond, _&&_, _||_, true≢false}
+use mathlib.Core.Path.{_≡_, refl, sym, ap, _∙_}
+use Prim.Native.Nat.{ℕ, zero, suc, _+_, _*_, _≤_}
+use mathlib.Core.Bool.{Bool, true, false, _&&_, _||_, true≢false}
 use mathlib.Core.Logic.{_⊎_, inl, inr, ⊎-elim}
-use mathlib.Core.List.{List, [], _∷_, _++_, append-nil, append-assoc}
+use mathlib.Core.List.{List, [], _∷_, _++_, append-nil}
 use mathlib.Core.Option.{Option, none, some}
 use native.Mathlib.Omega.{arith}
 use lib.Dec.{eqb, ltb}
@@ -12,8 +12,8 @@ use lib.Seq.{take-at, drop-at, length-take-le, take-take, take-add, getD-take, g
 use borrow.Author.Tests.{eqb-true, eq-eqb}
 use Rattle.lent.specs.Numbers.{be, bytes}
 use Rattle.lent.specs.Parts.{part}
-use Rattle.lent.proofs.Parts.{part-add, part-eq, take-part, part-part, take-drop}
-use Rattle.held.specs.Ascending.{Below, Asc}
+use Rattle.lent.proofs.Parts.{part-add, part-eq, part-part}
+use Rattle.held.specs.Ascending.{Below}
 use Rattle.held.specs.Bytes.{each}
 use Rattle.held.specs.Retained.{Stored}
 use Rattle.held.specs.Edit.{AscValues, Single}

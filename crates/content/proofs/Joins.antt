@@ -1,6 +1,6 @@
 -- What a text is, said of its levels one by one: UTF-8, free of a byte, its length. Assumes nothing.
 use mathlib.Core.Path.{_≡_, refl, sym, ap, _∙_}
-use Prim.Native.Nat.{ℕ, suc, _+_, _≤_, _<_}
+use Prim.Native.Nat.{ℕ, suc, _+_}
 use mathlib.Core.Bool.{Bool, true, false, not, cond, _&&_, _||_, and-true, true≢false}
 use mathlib.Core.List.{List, [], _∷_, _++_}
 use native.Mathlib.Omega.{arith}

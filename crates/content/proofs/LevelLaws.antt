@@ -1,7 +1,7 @@
 -- The tests of a level, as the code makes them. Assumes nothing.
 use mathlib.Core.Path.{_≡_, refl, sym, ap, _∙_}
 use Prim.Native.Nat.{ℕ, zero, suc, _+_, _-_, _≤_, _<_, max}
-use mathlib.Core.Bool.{Bool, true, false, not, cond, _&&_, _||_, and-true, and-false, and-assoc, true≢false}
+use mathlib.Core.Bool.{Bool, true, false, not, cond, _&&_, and-true, and-false, and-assoc, true≢false}
 use mathlib.Core.Logic.{⊎-elim}
 use mathlib.Core.List.{List, [], _∷_}
 use native.Mathlib.Omega.{arith}
@@ -9,13 +9,13 @@ use native.Mathlib.Numerals.{add-one}
 use lib.Dec.{eqb, ltb, leb}
 use lib.ListN.{length, take, drop, getD, drop-of-length-le}
 use lib.Seq.{drop-cons}
-use borrow.Author.Tests.{eq-eqb, ne-eqb, eqb-true, eqb-false, leb-true, le-leb, lt-leb, lt-ltb, le-ltb, not-false, not-true}
+use borrow.Author.Tests.{eq-eqb, ne-eqb, leb-true, le-leb, lt-leb, lt-ltb, le-ltb, not-false, not-true}
 use Rattle.lent.proofs.Anywhere.{lt-or-ge}
 use Rattle.utf8.specs.Utf8.{isUtf8}
 use Rattle.utf8.specs.Classes.{isAscii}
 use Rattle.utf8.proofs.Turns.{ascii-utf8}
 use Rattle.level.specs.Levels.{has}
-use Rattle.level.specs.Kinds.{wild, bad}
+use Rattle.level.specs.Kinds.{wild}
 use Rattle.held.proofs.Orders.{and-left, and-right}
 use Rattle.region.specs.declared.Kind.{Kind}
 use Rattle.region.specs.declared.Kind.the-variants.{Subscriptions, Retained}

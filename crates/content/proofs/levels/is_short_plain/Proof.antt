@@ -1,6 +1,6 @@
 -- `content::levels::is_short_plain` meets its contract. Assumes nothing.
 use borrow.Author.Needs.{needs}
-use mathlib.Core.Path.{_≡_, refl}
+use mathlib.Core.Path.{_≡_}
 use Prim.Native.Nat.{_-_}
 use mathlib.Core.Bool.{_&&_}
 use lib.Dec.{eqb}
