@@ -15,7 +15,7 @@ use Rattle.audit.specs.declared.Left.{Left}
 use Rattle.audit.specs.declared.Tally.{Tally}
 use Rattle.audit.specs.declared.Tally.the-variants.{Sound, Unsound}
 use Rattle.audit.specs.Heads.{HeadAt}
-use Rattle.audit.specs.Tests.{endAt, pastAt, writtenFine, textFine, placedFine, nodeFine}
+use Rattle.audit.specs.Tests.{endAt, pastAt, rowFine, nodeFine}
 use Rattle.audit.specs.Tally.{onSound, taken, tally}
 use Rattle.audit.proofs.Turns.{tally-none, tally-some}
 
@@ -58,59 +58,49 @@ module _ (k : Kind) (base : ℕ) (s : List ℕ) (d room i n : ℕ) (a : Left) {o
         unfolding nodeFine
         pass-wide x = refused (rw (fit, le-leb d 128 deep, le-ltb (lenAt base s i) room (rw (e .len-is) at x)))
 
-        module _ (wide : h .len < room) {w : Bool} (ew : w ≡ writtenFine k base s d i) where
+        module _ (wide : h .len < room) {w : Bool} (ew : w ≡ rowFine k base s d i n) where
           narrow : ltb (lenAt base s i) room ≡ true
           narrow = lt-ltb (lenAt base s i) room (rw (e .len-is) at wide)
 
-          pub pass-written : not w ≡ true → Unsound ≡ o
+          pub pass-row : not w ≡ true → Unsound ≡ o
           unfolding nodeFine
-          pass-written x = refused (rw (fit, le-leb d 128 deep, narrow, sym ew ∙ not-true w x))
+          pass-row x = refused (rw (fit, le-leb d 128 deep, narrow, sym ew ∙ not-true w x))
 
-          module _ (hw : not w ≡ false) {v : Bool} (ev : v ≡ textFine k base s i n) where
-            pub pass-text : not v ≡ true → Unsound ≡ o
+          module _ (hw : not w ≡ false) {l : Level} (el : l ≡ levelIn base s i n) {x : Tally} (ex : x ≡ taken a l (h .own)) where
+            fine : nodeFine k base s d room i n ≡ true
             unfolding nodeFine
-            pass-text x = refused (rw (fit, le-leb d 128 deep, narrow, sym ew ∙ not-false w hw, sym ev ∙ not-true v x))
+            fine = rw (fit, le-leb d 128 deep, narrow, sym ew ∙ not-false w hw)
 
-            module _ (hv : not v ≡ false) {p : Bool} (ep : p ≡ placedFine base s d i n) where
-              pub pass-placed : not p ≡ true → Unsound ≡ o
-              unfolding nodeFine
-              pass-placed x = refused (rw (fit, le-leb d 128 deep, narrow, sym ew ∙ not-false w hw, sym ev ∙ not-false v hv, sym ep ∙ not-true p x))
+            takes : x ≡ taken a (levelIn base s i n) (ownAt base s i)
+            takes = ex ∙ rw (el, e .own-is)
 
-              module _ (hp : not p ≡ false) {l : Level} (el : l ≡ levelIn base s i n) {x : Tally} (ex : x ≡ taken a l (h .own)) where
-                fine : nodeFine k base s d room i n ≡ true
-                unfolding nodeFine
-                fine = rw (fit, le-leb d 128 deep, narrow, sym ew ∙ not-false w hw, sym ev ∙ not-false v hv, sym ep ∙ not-false p hp)
+            ends : rowEnd base s i n ≡ i + (h .len + 23) / 16 + h .own
+            unfolding rowEnd
+            ends = omega (arith, end-is, past-is)
 
-                takes : x ≡ taken a (levelIn base s i n) (ownAt base s i)
-                takes = ex ∙ rw (el, e .own-is)
+            pasts : kidsEnd base s i n ≡ i + (h .len + 23) / 16 + h .own + h .below
+            unfolding kidsEnd
+            pasts = rw ends (omega (arith, past-is, e .below-is))
 
-                ends : rowEnd base s i n ≡ i + (h .len + 23) / 16 + h .own
-                unfolding rowEnd
-                ends = omega (arith, end-is, past-is)
+            onward : onSound x (λ b. onSound (tally k base s (d + 1) (room - (h .len + 1)) (i + (h .len + 23) / 16 + h .own) (i + (h .len + 23) / 16 + h .own + h .below) b)
+                (λ c. tally k base s d room (i + (h .len + 23) / 16 + h .own + h .below) n c)) ≡ o
+            onward = rw (takes, ← pasts, ← ends, e .len-is) (sym (here ∙ rw fine) ∙ turn)
 
-                pasts : kidsEnd base s i n ≡ i + (h .len + 23) / 16 + h .own + h .below
-                unfolding kidsEnd
-                pasts = rw ends (omega (arith, past-is, e .below-is))
+            pub pass-taken : x ≡ Unsound → Unsound ≡ o
+            pass-taken q = rw q at onward
 
-                onward : onSound x (λ b. onSound (tally k base s (d + 1) (room - (h .len + 1)) (i + (h .len + 23) / 16 + h .own) (i + (h .len + 23) / 16 + h .own + h .below) b)
-                    (λ c. tally k base s d room (i + (h .len + 23) / 16 + h .own + h .below) n c)) ≡ o
-                onward = rw (takes, ← pasts, ← ends, e .len-is) (sym (here ∙ rw fine) ∙ turn)
+            module _ {r : Left} (er : x ≡ Sound r) where
+              pub pass-leaf : h .below ≡ 0 → tally k base s d room (i + (h .len + 23) / 16 + h .own + h .below) n r ≡ o
+              pass-leaf z =
+                  let t = tally-none k base s (d + 1) (room - (h .len + 1)) (i + (h .len + 23) / 16 + h .own) (i + (h .len + 23) / 16 + h .own + h .below) r (omega arith) in
+                  rw t at (rw er at onward)
 
-                pub pass-taken : x ≡ Unsound → Unsound ≡ o
-                pass-taken q = rw q at onward
+              module _ {y : Tally} (ey : y ≡ tally k base s (d + 1) (room - (h .len + 1)) (i + (h .len + 23) / 16 + h .own) (i + (h .len + 23) / 16 + h .own + h .below) r) where
+                pub pass-below : y ≡ Unsound → Unsound ≡ o
+                pass-below q = rw (sym ey ∙ q) at (rw er at onward)
 
-                module _ {r : Left} (er : x ≡ Sound r) where
-                  pub pass-leaf : h .below ≡ 0 → tally k base s d room (i + (h .len + 23) / 16 + h .own + h .below) n r ≡ o
-                  pass-leaf z =
-                      let t = tally-none k base s (d + 1) (room - (h .len + 1)) (i + (h .len + 23) / 16 + h .own) (i + (h .len + 23) / 16 + h .own + h .below) r (omega arith) in
-                      rw t at (rw er at onward)
-
-                  module _ {y : Tally} (ey : y ≡ tally k base s (d + 1) (room - (h .len + 1)) (i + (h .len + 23) / 16 + h .own) (i + (h .len + 23) / 16 + h .own + h .below) r) where
-                    pub pass-below : y ≡ Unsound → Unsound ≡ o
-                    pass-below q = rw (sym ey ∙ q) at (rw er at onward)
-
-                    pub pass-on : {c : Left} → y ≡ Sound c → tally k base s d room (i + (h .len + 23) / 16 + h .own + h .below) n c ≡ o
-                    pass-on q = rw (sym ey ∙ q) at (rw er at onward)
+                pub pass-on : {c : Left} → y ≡ Sound c → tally k base s d room (i + (h .len + 23) / 16 + h .own + h .below) n c ≡ o
+                pass-on q = rw (sym ey ∙ q) at (rw er at onward)
 
 -- what comes of a row whose tests pass, by what it takes
 pub record Passed (k : Kind) (base : ℕ) (s : List ℕ) (d room i n : ℕ) (h : Head) (x o : Tally) : Type 0 where
@@ -122,12 +112,12 @@ pub record Passed (k : Kind) (base : ℕ) (s : List ℕ) (d room i n : ℕ) (h :
       → y ≡ Sound c → tally k base s d room (i + (h .len + 23) / 16 + h .own + h .below) n c ≡ o
 
 pub passed : (k : Kind) (base : ℕ) (s : List ℕ) (d room i n : ℕ) (a : Left) {o : Tally} → tally k base s d room i n a ≡ o → i < n → unitAt base n ≤ length s → {h : Head} → HeadAt base s i h
-    → i + (h .len + 23) / 16 + h .own + h .below ≤ n → d ≤ 128 → h .len < room → {w : Bool} → w ≡ writtenFine k base s d i → not w ≡ false
-    → {v : Bool} → v ≡ textFine k base s i n → not v ≡ false → {p : Bool} → p ≡ placedFine base s d i n → not p ≡ false → {l : Level} → l ≡ levelIn base s i n → {x : Tally} → x ≡ taken a l (h .own) → Passed k base s d room i n h x o
-passed k base s d room i n a turn some within e fits deep wide ew hw ev hv ep hp el ex =
+    → i + (h .len + 23) / 16 + h .own + h .below ≤ n → d ≤ 128 → h .len < room → {w : Bool} → w ≡ rowFine k base s d i n → not w ≡ false
+    → {l : Level} → l ≡ levelIn base s i n → {x : Tally} → x ≡ taken a l (h .own) → Passed k base s d room i n h x o
+passed k base s d room i n a turn some within e fits deep wide ew hw el ex =
     record {
-      taken = pass-taken k base s d room i n a turn some within e fits deep wide ew hw ev hv ep hp el ex;
-      leaf = λ er z. pass-leaf k base s d room i n a turn some within e fits deep wide ew hw ev hv ep hp el ex er z;
-      below = λ er ey q. pass-below k base s d room i n a turn some within e fits deep wide ew hw ev hv ep hp el ex er ey q;
-      on = λ er ey q. pass-on k base s d room i n a turn some within e fits deep wide ew hw ev hv ep hp el ex er ey q;
+      taken = pass-taken k base s d room i n a turn some within e fits deep wide ew hw el ex;
+      leaf = λ er z. pass-leaf k base s d room i n a turn some within e fits deep wide ew hw el ex er z;
+      below = λ er ey q. pass-below k base s d room i n a turn some within e fits deep wide ew hw el ex er ey q;
+      on = λ er ey q. pass-on k base s d room i n a turn some within e fits deep wide ew hw el ex er ey q;
     }

@@ -27,7 +27,7 @@ use Rattle.audit.specs.declared.Tally.the-variants.{Sound, Unsound}
 use Rattle.audit.specs.Tally.{taken}
 use Rattle.audit.specs.Heads.{HeadAt}
 use Rattle.content.specs.Contents.{every, levelFine, plainTo, ownFine}
-use Rattle.audit.specs.Tests.{endAt, mayHold, shapeFine, less, follows, marksFine, fillFine, writtenFine, textFine, placedFine}
+use Rattle.audit.specs.Tests.{endAt, mayHold, shapeFine, less, follows, marksFine, fillFine, writtenFine, textFine, placedFine, rowFine}
 use Rattle.content.proofs.UnitLaws.{from-part}
 use Rattle.content.proofs.LevelLaws.{short-fine}
 
@@ -197,6 +197,21 @@ module _ (base : ℕ) (s : List ℕ) (d i n : ℕ) {h : Head} (e : HeadAt base s
   pub placed-last : not m ≡ false → {o : Bool} → o ≡ follows base s l (i + (h .len + 23) / 16 + h .own + h .below) n → o ≡ placedFine base s d i n
   unfolding placedFine
   placed-last x eo = rw (← shape-is, not-false m x) (eo ∙ rw (el, e .len-is, e .own-is, e .below-is))
+
+-- a row by itself
+module _ (k : Kind) (base : ℕ) (s : List ℕ) (d i n : ℕ) {w : Bool} (ew : w ≡ writtenFine k base s d i) where
+  pub row-written : not w ≡ true → false ≡ rowFine k base s d i n
+  unfolding rowFine
+  row-written x = rw (sym ew ∙ not-true w x)
+
+  module _ (hw : not w ≡ false) {v : Bool} (ev : v ≡ textFine k base s i n) where
+    pub row-text : not v ≡ true → false ≡ rowFine k base s d i n
+    unfolding rowFine
+    row-text x = rw (sym ew ∙ not-false w hw, sym ev ∙ not-true v x)
+
+    pub row-last : not v ≡ false → {p : Bool} → p ≡ placedFine base s d i n → p ≡ rowFine k base s d i n
+    unfolding rowFine
+    row-last x ep = rw (sym ew ∙ not-false w hw, sym ev ∙ not-false v x) ep
 
 -- the cells of a level
 module _ (l : Level) {p : Bool} (ep : p ≡ isOnly 43 l) where

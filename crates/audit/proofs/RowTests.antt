@@ -12,7 +12,7 @@ use Rattle.held.proofs.Orders.{and-left, and-right}
 use Rattle.region.specs.declared.Kind.{Kind}
 use Rattle.forest.specs.Places.{unitAt, lenAt, ownAt, belowAt, levelIn}
 use Rattle.content.specs.Contents.{levelFine, ownFine}
-use Rattle.audit.specs.Tests.{heldAt, endAt, pastAt, shapeFine, marksFine, fillFine, orderFine, writtenFine, textFine, placedFine, nodeFine}
+use Rattle.audit.specs.Tests.{heldAt, endAt, pastAt, shapeFine, marksFine, fillFine, orderFine, writtenFine, textFine, placedFine, rowFine, nodeFine}
 
 -- the tests of a node, one by one
 pub record Tested (k : Kind) (base : ℕ) (s : List ℕ) (d room i n : ℕ) : Type 0 where
@@ -34,9 +34,9 @@ module _ (k : Kind) (base : ℕ) (s : List ℕ) (d room i n : ℕ) where
   three false b c q = absurd (true≢false (sym q))
 
   pub tested : nodeFine k base s d room i n ≡ true → Tested k base s d room i n
-  unfolding nodeFine writtenFine textFine placedFine
+  unfolding nodeFine rowFine writtenFine textFine placedFine
   tested e =
-      let p = three (leb (pastAt base s i) n) (leb d 128) (ltb (lenAt base s i) room && (writtenFine k base s d i && (textFine k base s i n && placedFine base s d i n))) e in
+      let p = three (leb (pastAt base s i) n) (leb d 128) (ltb (lenAt base s i) room && rowFine k base s d i n) e in
       let q = three (ltb (lenAt base s i) room) (writtenFine k base s d i) (textFine k base s i n && placedFine base s d i n) (p .2) in
       let w = three (eqb (be (part (unitAt base i + 6) 2 s)) 0) (marksFine s d i (endAt base s i)) (ownFine k (ownAt base s i) (drop (unitAt base (heldAt base s i)) s)) (q .1) in
       let f = and-left (fillFine base s i && levelFine k (levelIn base s i n)) (placedFine base s d i n) (q .2) in
@@ -55,7 +55,7 @@ module _ (k : Kind) (base : ℕ) (s : List ℕ) (d room i n : ℕ) where
       }
 
   pub passed : Tested k base s d room i n → nodeFine k base s d room i n ≡ true
-  unfolding nodeFine writtenFine textFine placedFine
+  unfolding nodeFine rowFine writtenFine textFine placedFine
   passed t =
       rw (
         le-leb (pastAt base s i) n (t .past),

@@ -65,6 +65,10 @@ textFine k base s i n = fillFine base s i && levelFine k (levelIn base s i n)
 unfoldable pub placedFine : (base : ℕ) → List ℕ → (d i n : ℕ) → Bool
 placedFine base s d i n = shapeFine d (levelIn base s i n) (ownAt base s i) (belowAt base s i) && orderFine base s i n
 
--- all of that, with the depth and the bytes that a text has left
+-- all of that
+unfoldable pub rowFine : Kind → (base : ℕ) → List ℕ → (d i n : ℕ) → Bool
+rowFine k base s d i n = writtenFine k base s d i && (textFine k base s i n && placedFine base s d i n)
+
+-- and the row ends with all below it by unit n, it is not too deep, and its level fits in the bytes that a text has left
 unfoldable pub nodeFine : Kind → (base : ℕ) → List ℕ → (d room i n : ℕ) → Bool
-nodeFine k base s d room i n = leb (pastAt base s i) n && (leb d 128 && (ltb (lenAt base s i) room && (writtenFine k base s d i && (textFine k base s i n && placedFine base s d i n))))
+nodeFine k base s d room i n = leb (pastAt base s i) n && (leb d 128 && (ltb (lenAt base s i) room && rowFine k base s d i n))

@@ -1,10 +1,13 @@
 // The rows of units, one after another: every row is tested, and what it has is taken from what the header promises.
 ghost use mathlib.Core.Path.{_≡_};
-ghost use Prim.Native.Nat.{_+_, _≤_};
+ghost use Prim.Native.Nat.{_+_, _/_, _≤_};
 ghost use lib.ListN.{length};
 ghost use Rattle.held.specs.Room.{levelCells};
 ghost use Rattle.forest.specs.Places.{unitAt};
+ghost use Rattle.audit.specs.Heads.{HeadAt};
+ghost use Rattle.audit.specs.Tests.{rowFine};
 ghost use Rattle.audit.specs.Tally.{taken, tally};
+use crate::Head;
 use crate::Left;
 use crate::Tally;
 use crate::placed::row_is_placed;
@@ -16,6 +19,21 @@ use region::Kind;
 
 // The deepest level that a store has.
 const DEEPEST: usize = 128;
+
+// The row at unit i by itself: how it is written, its level, and where it stands.
+fn row_is_sound(s: &[u8], base: usize, kind: Kind, d: usize, i: usize, n: usize, head: Head) -> bool
+    requires { ⌜ HeadAt base (now s) i head × (i + (head .len + 23) / 16 + head .own + head .below ≤ n) × (unitAt base n ≤ length (now s)) × (64 + n ≤ base) ⌝ }
+    ensures { λ r. ⌜ r ≡ rowFine kind base (now (s .entry)) d i n ⌝ }
+{
+    if !row_is_written(s, base, kind, d, i, n, head) {
+        return false;
+    }
+    if !text_is_sound(s, base, kind, i, n, head) {
+        return false;
+    }
+    let level = level_of(s, base, i, n, head);
+    row_is_placed(s, base, level, d, i, n, head)
+}
 
 // The cells of a level: none for a wildcard.
 fn cells_of(level: &[u8]) -> usize
@@ -81,16 +99,10 @@ pub fn audit_rows(
         if room <= head.len {
             return Tally::Unsound;
         }
-        if !row_is_written(s, base, kind, d, i, n, head) {
-            return Tally::Unsound;
-        }
-        if !text_is_sound(s, base, kind, i, n, head) {
+        if !row_is_sound(s, base, kind, d, i, n, head) {
             return Tally::Unsound;
         }
         let level = level_of(s, base, i, n, head);
-        if !row_is_placed(s, base, level, d, i, n, head) {
-            return Tally::Unsound;
-        }
         let Tally::Sound(rest) = take_node(left, level, head.own) else {
             return Tally::Unsound;
         };

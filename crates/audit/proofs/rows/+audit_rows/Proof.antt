@@ -4,19 +4,17 @@ use mathlib.Core.Path.{_≡_, refl}
 use native.Mathlib.Omega.{arith}
 use denote.Ref.{now}
 use Rattle.audit.specs.Tally.{tally}
-use Rattle.audit.proofs.Passes.{pass-end, pass-cut, pass-deep, pass-wide, pass-written, pass-text, pass-placed, Passed, passed}
+use Rattle.audit.proofs.Passes.{pass-end, pass-cut, pass-deep, pass-wide, pass-row, Passed, passed}
 use Prim.Native.Nat.{ℕ, _-_, _<_}
 use borrow.Fn.Kinds.{In}
 use borrow.Fn.PlainCycle.{Measures, is, falls, and}
 use Rattle.audit.proofs.rows.audit_rows.Reads as audit-rows
 use Rattle.audit.proofs.rows.audit_rows.Kinds as audit-rows-kinds
 use Rattle.audit.proofs.rows.+audit_rows.Lts-audit_rows as audit-rows-lts
+use Rattle.audit.proofs.rows.row_is_sound.Reads as row-is-sound-reads
+use Rattle.audit.proofs.rows.take_node.Reads as take-node-reads
 use Rattle.audit.proofs.written.head_at.Reads as head-at-reads
 use Rattle.audit.proofs.written.level_of.Reads as level-of-reads
-use Rattle.audit.proofs.placed.row_is_placed.Reads as row-is-placed-reads
-use Rattle.audit.proofs.written.row_is_written.Reads as row-is-written-reads
-use Rattle.audit.proofs.rows.take_node.Reads as take-node-reads
-use Rattle.audit.proofs.written.text_is_sound.Reads as text-is-sound-reads
 use Rattle.audit.proofs.rows.+audit_rows.{statement}
 use Rattle.audit.proofs.rows.+audit_rows.Tie.{close}
 
@@ -32,7 +30,7 @@ audit-rows-below t =
     and 1 audit-rows-kinds.ps (falls 1 audit-rows-kinds.ps _<_ μ-audit-rows t) audit-rows.Pre
 
 abbrev audit-rows-claims : ℕ → audit-rows-lts.Claims
-audit-rows-claims t = (head-at-reads.Asked, head-at-reads.Learnt, row-is-written-reads.Asked, row-is-written-reads.Learnt, text-is-sound-reads.Asked, text-is-sound-reads.Learnt, level-of-reads.Asked, level-of-reads.Learnt, row-is-placed-reads.Asked, row-is-placed-reads.Learnt, take-node-reads.Asked, take-node-reads.Learnt, audit-rows-below t, audit-rows.Post)
+audit-rows-claims t = (head-at-reads.Asked, head-at-reads.Learnt, row-is-sound-reads.Asked, row-is-sound-reads.Learnt, level-of-reads.Asked, level-of-reads.Learnt, take-node-reads.Asked, take-node-reads.Learnt, audit-rows-below t, audit-rows.Post)
 
 abbrev audit-rows-Inv-loop : audit-rows-lts.InvT-loop
 audit-rows-Inv-loop s base kind d room lo n i₀ left₀ i left = tally kind base s d room i n left ≡ tally kind base s d room lo n left₀
@@ -42,16 +40,14 @@ audit-rows-μ-loop s base kind d room lo n i₀ left₀ i left = n - i
 
 -- a row whose tests pass, from the place where its node is taken
 row : (t : ℕ) (m : audit-rows-lts.After-take-node (audit-rows-claims t) (audit-rows-at t) audit-rows.Post audit-rows-Inv-loop audit-rows-μ-loop)
-    → let head = m .before .before .before .before .before .before .before .before .before .before .before .before .before .before .before in
+    → let head = m .before .before .before .before .before .before .before .before .before .before .before in
     let turn = head .before .before in
     let a = turn .before .before .args in
     Passed (a .kind) (a .base) (now (a .s)) (a .d) (a .room) (turn .loop .i) (a .n) (head .head-at .result) (m .take-node .result)
     (tally (a .kind) (a .base) (now (a .s)) (a .d) (a .room) (a .lo) (a .n) (a .promised))
 row t m =
-    let placed = m .before .before in
-    let text = placed .before .before .before in
-    let written = text .before .before in
-    let wide = written .before in
+    let sound = m .before .before .before in
+    let wide = sound .before in
     let deep = wide .before .before in
     let fits = deep .before in
     let head = fits .before .before .before .before in
@@ -59,8 +55,7 @@ row t m =
     let start = turn .before .before in
     let a = start .args in
     passed (a .kind) (a .base) (now (a .s)) (a .d) (a .room) (turn .loop .i) (a .n) (turn .loop .left) (turn .loop .inv) (head .before .loop-test .taken) (start .pre .1 .0)
-    (head .head-at .ensures) (fits .if1 .left) (deep .if2 .left) (wide .if3 .left) (written .row-is-written .ensures) (text .before .if4 .left) (text .text-is-sound .ensures) (placed .before .before .if5 .left)
-    (placed .row-is-placed .ensures) (m .before .if6 .left) (placed .before .level-of .ensures) (m .take-node .ensures)
+    (head .head-at .ensures) (fits .if1 .left) (deep .if2 .left) (wide .if3 .left) (sound .row-is-sound .ensures) (m .before .before .if4 .left) (m .before .level-of .ensures) (m .take-node .ensures)
 
 audit-rows-loop-holds : (t : ℕ) → audit-rows-lts.Need-loop-holds (audit-rows-claims t) (audit-rows-at t) audit-rows.Post audit-rows-Inv-loop audit-rows-μ-loop
 audit-rows-loop-holds t c = refl
@@ -89,42 +84,14 @@ audit-rows-returns-2 t c = search (needs, pass-deep)
 audit-rows-returns-3 : (t : ℕ) → audit-rows-lts.Need-returns-3 (audit-rows-claims t) (audit-rows-at t) audit-rows.Post audit-rows-Inv-loop audit-rows-μ-loop
 audit-rows-returns-3 t c = search (needs, pass-wide)
 
-audit-rows-row-is-written-requires : (t : ℕ) → audit-rows-lts.Need-row-is-written-requires (audit-rows-claims t) (audit-rows-at t) audit-rows.Post audit-rows-Inv-loop audit-rows-μ-loop
-audit-rows-row-is-written-requires t c κs = search needs
+audit-rows-row-is-sound-requires : (t : ℕ) → audit-rows-lts.Need-row-is-sound-requires (audit-rows-claims t) (audit-rows-at t) audit-rows.Post audit-rows-Inv-loop audit-rows-μ-loop
+audit-rows-row-is-sound-requires t c κs = search needs
 
 audit-rows-returns-4 : (t : ℕ) → audit-rows-lts.Need-returns-4 (audit-rows-claims t) (audit-rows-at t) audit-rows.Post audit-rows-Inv-loop audit-rows-μ-loop
-audit-rows-returns-4 t c = search (needs, pass-written)
-
-audit-rows-text-is-sound-requires : (t : ℕ) → audit-rows-lts.Need-text-is-sound-requires (audit-rows-claims t) (audit-rows-at t) audit-rows.Post audit-rows-Inv-loop audit-rows-μ-loop
-audit-rows-text-is-sound-requires t c κs = search needs
-
-audit-rows-returns-5 : (t : ℕ) → audit-rows-lts.Need-returns-5 (audit-rows-claims t) (audit-rows-at t) audit-rows.Post audit-rows-Inv-loop audit-rows-μ-loop
-audit-rows-returns-5 t c = search (needs, pass-text)
+audit-rows-returns-4 t c = search (needs, pass-row)
 
 audit-rows-level-of-requires : (t : ℕ) → audit-rows-lts.Need-level-of-requires (audit-rows-claims t) (audit-rows-at t) audit-rows.Post audit-rows-Inv-loop audit-rows-μ-loop
 audit-rows-level-of-requires t c κs = search needs
-
-audit-rows-row-is-placed-requires : (t : ℕ) → audit-rows-lts.Need-row-is-placed-requires (audit-rows-claims t) (audit-rows-at t) audit-rows.Post audit-rows-Inv-loop audit-rows-μ-loop
-audit-rows-row-is-placed-requires t c κs =
-    let head = c .before .before .before .before .before .before .before .before .before .before .before .before in
-    let start = head .before .before .before .before in
-    (head .head-at .ensures, c .level-of .ensures, head .before .loop-test .taken, start .pre .1 .0)
-
-audit-rows-returns-6 : (t : ℕ) → audit-rows-lts.Need-returns-6 (audit-rows-claims t) (audit-rows-at t) audit-rows.Post audit-rows-Inv-loop audit-rows-μ-loop
-audit-rows-returns-6 t c =
-    let placed = c .before in
-    let text = placed .before .before .before in
-    let written = text .before .before in
-    let wide = written .before in
-    let deep = wide .before .before in
-    let fits = deep .before in
-    let head = fits .before .before .before .before in
-    let turn = head .before .before in
-    let start = turn .before .before in
-    let a = start .args in
-    pass-placed (a .kind) (a .base) (now (a .s)) (a .d) (a .room) (turn .loop .i) (a .n) (turn .loop .left) (turn .loop .inv) (head .before .loop-test .taken) (start .pre .1 .0)
-    (head .head-at .ensures) (fits .if1 .left) (deep .if2 .left) (wide .if3 .left) (written .row-is-written .ensures) (text .before .if4 .left) (text .text-is-sound .ensures) (placed .before .before .if5 .left)
-    (placed .row-is-placed .ensures) (c .if6 .taken)
 
 audit-rows-take-node-requires : (t : ℕ) → audit-rows-lts.Need-take-node-requires (audit-rows-claims t) (audit-rows-at t) audit-rows.Post audit-rows-Inv-loop audit-rows-μ-loop
 audit-rows-take-node-requires t c κs = search needs
@@ -135,21 +102,21 @@ audit-rows-enum-known-rest t c = search needs
 audit-rows-enum-told : (t : ℕ) → audit-rows-lts.Need-enum-told (audit-rows-claims t) (audit-rows-at t) audit-rows.Post audit-rows-Inv-loop audit-rows-μ-loop
 audit-rows-enum-told t c = search needs
 
-audit-rows-returns-7 : (t : ℕ) → audit-rows-lts.Need-returns-7 (audit-rows-claims t) (audit-rows-at t) audit-rows.Post audit-rows-Inv-loop audit-rows-μ-loop
-audit-rows-returns-7 t c = row t (c .before .before) .taken (c .enum-told .given .1)
+audit-rows-returns-5 : (t : ℕ) → audit-rows-lts.Need-returns-5 (audit-rows-claims t) (audit-rows-at t) audit-rows.Post audit-rows-Inv-loop audit-rows-μ-loop
+audit-rows-returns-5 t c = row t (c .before .before) .taken (c .enum-told .given .1)
 
 audit-rows-loop-less : (t : ℕ) → audit-rows-lts.Need-loop-less (audit-rows-claims t) (audit-rows-at t) audit-rows.Post audit-rows-Inv-loop audit-rows-μ-loop
 audit-rows-loop-less t c = search needs
 
 audit-rows-loop-again : (t : ℕ) → audit-rows-lts.Need-loop-again (audit-rows-claims t) (audit-rows-at t) audit-rows.Post audit-rows-Inv-loop audit-rows-μ-loop
-audit-rows-loop-again t c = row t (c .before .before .before .before .before) .leaf (c .before .before .before .rest .given .1) (c .if7 .taken)
+audit-rows-loop-again t c = row t (c .before .before .before .before .before) .leaf (c .before .before .before .rest .given .1) (c .if5 .taken)
 
 audit-rows-add-audit-rows : (t : ℕ) → audit-rows-lts.Need-add-audit-rows (audit-rows-claims t) (audit-rows-at t) audit-rows.Post audit-rows-Inv-loop audit-rows-μ-loop
 audit-rows-add-audit-rows t c = search needs
 
 audit-rows-add-audit-rows-2 : (t : ℕ) → audit-rows-lts.Need-add-audit-rows-2 (audit-rows-claims t) (audit-rows-at t) audit-rows.Post audit-rows-Inv-loop audit-rows-μ-loop
 audit-rows-add-audit-rows-2 t c =
-    let head = c .before .before .before .before .before .before .before .before .before .before .before .before .before .before .before .before .before .before .before .before .before in
+    let head = c .before .before .before .before .before .before .before .before .before .before .before .before .before .before .before .before .before in
     omega (arith, head .head-at .ensures .len-small)
 
 audit-rows-sub-audit-rows : (t : ℕ) → audit-rows-lts.Need-sub-audit-rows (audit-rows-claims t) (audit-rows-at t) audit-rows.Post audit-rows-Inv-loop audit-rows-μ-loop
@@ -157,7 +124,7 @@ audit-rows-sub-audit-rows t c = search needs
 
 audit-rows-audit-rows-requires : (t : ℕ) → audit-rows-lts.Need-audit-rows-requires (audit-rows-claims t) (audit-rows-at t) audit-rows.Post audit-rows-Inv-loop audit-rows-μ-loop
 audit-rows-audit-rows-requires t c κs =
-    let deep = c .before .before .before .before .before .before .before .before .before .before .before .before .before .before .before .before in
+    let deep = c .before .before .before .before .before .before .before .before .before .before .before .before in
     let fits = deep .before in
     let start = fits .before .before .before .before .before .before .before .before in (
       omega (arith, start .pre .0, deep .if2 .left),
@@ -170,20 +137,20 @@ audit-rows-enum-known-below t c = search needs
 audit-rows-enum-told-2 : (t : ℕ) → audit-rows-lts.Need-enum-told-2 (audit-rows-claims t) (audit-rows-at t) audit-rows.Post audit-rows-Inv-loop audit-rows-μ-loop
 audit-rows-enum-told-2 t c = search needs
 
-audit-rows-returns-8 : (t : ℕ) → audit-rows-lts.Need-returns-8 (audit-rows-claims t) (audit-rows-at t) audit-rows.Post audit-rows-Inv-loop audit-rows-μ-loop
-audit-rows-returns-8 t c = row t (c .before .before .before .before .before .before .before .before .before) .below (c .before .before .before .before .before .before .before .rest .given .1) (c .before .before .audit-rows .ensures) (c .enum-told2 .given .1)
+audit-rows-returns-6 : (t : ℕ) → audit-rows-lts.Need-returns-6 (audit-rows-claims t) (audit-rows-at t) audit-rows.Post audit-rows-Inv-loop audit-rows-μ-loop
+audit-rows-returns-6 t c = row t (c .before .before .before .before .before .before .before .before .before) .below (c .before .before .before .before .before .before .before .rest .given .1) (c .before .before .audit-rows .ensures) (c .enum-told2 .given .1)
 
 audit-rows-loop-less-2 : (t : ℕ) → audit-rows-lts.Need-loop-less-2 (audit-rows-claims t) (audit-rows-at t) audit-rows.Post audit-rows-Inv-loop audit-rows-μ-loop
 audit-rows-loop-less-2 t c =
-    let fits = c .before .before .before .before .before .before .before .before .before .before .before .before .before .before .before .before .before .before .before .before .before in
+    let fits = c .before .before .before .before .before .before .before .before .before .before .before .before .before .before .before .before .before in
     let head = fits .before .before .before .before in
     omega (arith, head .before .loop-test .taken, fits .if1 .left)
 
 audit-rows-loop-again-2 : (t : ℕ) → audit-rows-lts.Need-loop-again-2 (audit-rows-claims t) (audit-rows-at t) audit-rows.Post audit-rows-Inv-loop audit-rows-μ-loop
 audit-rows-loop-again-2 t c = row t (c .before .before .before .before .before .before .before .before .before .before) .on (c .before .before .before .before .before .before .before .before .rest .given .1) (c .before .before .before .audit-rows .ensures) (c .before .below .given .1)
 
-audit-rows-returns-9 : (t : ℕ) → audit-rows-lts.Need-returns-9 (audit-rows-claims t) (audit-rows-at t) audit-rows.Post audit-rows-Inv-loop audit-rows-μ-loop
-audit-rows-returns-9 t c = search (needs, pass-end)
+audit-rows-returns-7 : (t : ℕ) → audit-rows-lts.Need-returns-7 (audit-rows-claims t) (audit-rows-at t) audit-rows.Post audit-rows-Inv-loop audit-rows-μ-loop
+audit-rows-returns-7 t c = search (needs, pass-end)
 
 pub +audit-rows-spec : {M : Type 1} → statement M
 +audit-rows-spec = close μ-audit-rows λ t. audit-rows-lts.spec (audit-rows-claims t)
@@ -200,17 +167,13 @@ pub +audit-rows-spec : {M : Type 1} → statement M
     (audit-rows-returns t)
     (audit-rows-returns-2 t)
     (audit-rows-returns-3 t)
-    (audit-rows-row-is-written-requires t)
+    (audit-rows-row-is-sound-requires t)
     (audit-rows-returns-4 t)
-    (audit-rows-text-is-sound-requires t)
-    (audit-rows-returns-5 t)
     (audit-rows-level-of-requires t)
-    (audit-rows-row-is-placed-requires t)
-    (audit-rows-returns-6 t)
     (audit-rows-take-node-requires t)
     (audit-rows-enum-known-rest t)
     (audit-rows-enum-told t)
-    (audit-rows-returns-7 t)
+    (audit-rows-returns-5 t)
     (audit-rows-loop-less t)
     (audit-rows-loop-again t)
     (audit-rows-add-audit-rows t)
@@ -219,7 +182,7 @@ pub +audit-rows-spec : {M : Type 1} → statement M
     (audit-rows-audit-rows-requires t)
     (audit-rows-enum-known-below t)
     (audit-rows-enum-told-2 t)
-    (audit-rows-returns-8 t)
+    (audit-rows-returns-6 t)
     (audit-rows-loop-less-2 t)
     (audit-rows-loop-again-2 t)
-    (audit-rows-returns-9 t)
+    (audit-rows-returns-7 t)
