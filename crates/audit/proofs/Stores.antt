@@ -170,7 +170,7 @@ module _ {X : Type 0} {kind : Kind} (u : Holding X kind) (s : List ℕ) (o : Oct
 
 -- the two kinds
 module _ (s : List ℕ) (o : Octets s) where
-  subscriptions-yes : Kept held-values s o → SubscriptionStore s
+  pub subscriptions-yes : Kept held-values s o → SubscriptionStore s
   subscriptions-yes k =
       let f = k .fine in
       record {
@@ -184,7 +184,7 @@ module _ (s : List ℕ) (o : Octets s) where
         texts = texts-yes held-values s o f;
       }
 
-  subscriptions-no : SubscriptionStore s → Kept held-values s o
+  pub subscriptions-no : SubscriptionStore s → Kept held-values s o
   subscriptions-no r =
       let t = texts-no held-values s o (r .texts) in
       record {
@@ -192,7 +192,7 @@ module _ (s : List ℕ) (o : Octets s) where
         fine = wells-fine Subscriptions (held-values .Fit) 1 65536 (F held-values s o) (omega arith) (r .well .rows) (r .well .ends) (r .well .owns) (r .well .full) (t .0) (λ q. t .1);
       }
 
-  retained-yes : Kept held-records s o → RetainedStore s
+  pub retained-yes : Kept held-records s o → RetainedStore s
   retained-yes k =
       let f = k .fine in
       record {
@@ -205,7 +205,7 @@ module _ (s : List ℕ) (o : Octets s) where
         texts = texts-yes held-records s o f;
       }
 
-  retained-no : RetainedStore s → Kept held-records s o
+  pub retained-no : RetainedStore s → Kept held-records s o
   retained-no r =
       let t = texts-no held-records s o (r .texts) in
       record {

@@ -11,7 +11,7 @@ use Rattle.lent.specs.Numbers.{be}
 use Rattle.lent.specs.Parts.{part}
 use Rattle.lent.specs.Total.{read}
 use Rattle.lent.proofs.Anywhere.{read-in}
-use Rattle.held.specs.Room.{Room, inRange}
+use Rattle.held.specs.Room.{inRange}
 use Rattle.refusal.specs.declared.Refusal.{Refusal}
 use Rattle.refusal.specs.declared.Refusal.the-variants.{BadSize}
 use Rattle.region.specs.declared.Kind.{Kind}
@@ -20,6 +20,7 @@ use Rattle.region.specs.declared.Size.{Size}
 use Rattle.region.specs.declared.Size.the-variants.{Bytes, Refused}
 use Rattle.region.specs.Layout.{unitRoom, neededBytes}
 use Rattle.region.specs.Opening.{roomOf, neededOf}
+use Rattle.region.specs.Shapes.{CapacitiesOf}
 use Rattle.region.specs.Store.{roomAt}
 use Rattle.forest.specs.Places.{unitAt}
 use Rattle.audit.specs.declared.Left.{Left}
@@ -34,9 +35,6 @@ use Rattle.audit.proofs.Stores.{decided}
 module _ (s : List ℕ) (long : 64 ≤ length s) where
   number : (p : ℕ) → p + 2 ≤ 64 → read 2 p s ≡ be (part p 2 s)
   number p h = read-in 2 p s (omega arith)
-
-  pub room-is : {a b c : ℕ} → a ≡ read 2 4 s → b ≡ read 2 6 s → c ≡ read 2 8 s → _≡_ {A = Room} (record { nodes = a; pairs = b; cells = c }) (roomAt s)
-  room-is ea eb ec = rw (ea, eb, ec, number 4 (omega arith), number 6 (omega arith), number 8 (omega arith))
 
   pub left-is : {a b c : ℕ} → a ≡ read 2 10 s → b ≡ read 2 12 s → c ≡ read 2 14 s → _≡_ {A = Left} (record { nodes = a; pairs = b; cells = c }) (leftAt s)
   left-is ea eb ec = rw (ea, eb, ec, number 10 (omega arith), number 12 (omega arith), number 14 (omega arith))
@@ -74,9 +72,9 @@ module _ (s : List ℕ) (long : 64 ≤ length s) where
         used-units h eu er = rw (nodes-in, le-leb un n hn, pairs-in, le-leb up p hp, cells-in, le-leb uc c h, eu, er, number 16 (omega arith))
 
   -- the header
-  module _ (k : Kind) {c : Capacities} (ec : roomOf c ≡ roomAt s) {z : Size} (ez : z ≡ neededOf (roomOf c)) where
+  module _ (k : Kind) {c : Capacities} (ec : CapacitiesOf s c) {z : Size} (ez : z ≡ neededOf (roomOf c)) where
     size-is : z ≡ neededOf (roomAt s)
-    size-is = ez ∙ ap neededOf ec
+    size-is = ez ∙ ap neededOf (ec .room-is (omega arith))
 
     ranged : (t : Bool) → inRange (roomAt s) ≡ t → {n : ℕ} → z ≡ Bytes n → (inRange (roomAt s) ≡ true) × (n ≡ neededBytes (roomAt s))
     ranged true q {n} e = (q, (let f : Bytes (neededBytes (roomAt s)) ≡ Bytes n = sym (size-is ∙ rw q) ∙ e in cc))

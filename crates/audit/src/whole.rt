@@ -3,36 +3,19 @@ ghost use mathlib.Core.Path.{_≡_};
 ghost use Prim.Native.Nat.{_≤_, _<_};
 ghost use lib.ListN.{length};
 ghost use Rattle.region.specs.Layout.{unitRoom};
-ghost use Rattle.region.specs.Opening.{roomOf};
 ghost use Rattle.region.specs.Store.{roomAt};
 ghost use Rattle.audit.specs.Whole.{markOf, leftAt, none, allTaken, usedFine, headerFine, storeFine};
 ghost use Rattle.audit.specs.Decides.{StoreOf, Decides};
 use crate::Left;
 use crate::Tally;
 use crate::rows::audit_rows;
-use region::Capacities;
-use region::Cells;
 use region::Kind;
-use region::Nodes;
-use region::Pairs;
 use region::Size;
 
 // A header's bytes.
 const HEADER: usize = 64;
 // The bytes of the longest text with the '/' after each of its levels.
 const WIDEST: usize = 65536;
-
-// The capacities that a header says.
-fn capacities_at(s: &[u8]) -> Capacities
-    requires { ⌜ 64 ≤ length (now s) ⌝ }
-    ensures { λ r. ⌜ roomOf r ≡ roomAt (now (s .entry)) ⌝ }
-{
-    Capacities {
-        nodes: Nodes(lent::get16(s, 4)),
-        pairs: Pairs(lent::get16(s, 6)),
-        cells: Cells(lent::get16(s, 8)),
-    }
-}
 
 // The nodes, pairs and cells that a header says are in use.
 fn promised_at(s: &[u8]) -> Left
@@ -85,7 +68,7 @@ fn header_is_sound(s: &[u8], kind: Kind) -> bool
     requires { ⌜ 64 ≤ length (now s) ⌝ }
     ensures { λ r. ⌜ r ≡ headerFine kind (now (s .entry)) ⌝ }
 {
-    let size = region::needed(kind, capacities_at(s));
+    let size = region::needed(kind, region::capacities_of(s));
     let Size::Bytes(needed) = size else {
         return false;
     };

@@ -1,3 +1,4 @@
 pub mod FirstRow
 pub mod OrderLaws
 pub mod RowLaws
+pub mod StandsLaws

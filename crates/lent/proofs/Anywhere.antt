@@ -5,7 +5,7 @@ use mathlib.Core.Bool.{Bool, true, false, cond}
 use mathlib.Core.Logic.{_⊎_, inl, inr, ⊎-elim}
 use mathlib.Core.List.{List}
 use native.Mathlib.Omega.{arith}
-use lib.ListN.{length, take, drop, set}
+use lib.ListN.{length, take, drop, set, replicate, length-replicate}
 use lib.Dec.{leb}
 use borrow.Author.Tests.{le-leb, lt-leb}
 use Rattle.lent.specs.Numbers.{be, bytes}
@@ -152,3 +152,15 @@ module _ (at end by : ℕ) (s : List ℕ) where
   close-end h k {i} j l e =
       let z : i ≡ end = omega arith in
       rw (close-in (omega arith), ← z) e
+
+-- fill
+pub fill-done : (at count i b : ℕ) (s₀ s : List ℕ) → at + count ≤ length s₀ → i ≤ count → count ≤ i → s ≡ patch at (replicate i b) s₀ → s ≡ write at (replicate count b) s₀
+fill-done at count i b s₀ s h p q e =
+    let z : i ≡ count = omega arith in
+    (rw z at e) ∙ sym (write-in at (replicate count b) s₀ (rw length-replicate h))
+
+pub fill-short : (at count b : ℕ) (s : List ℕ) → length s < count → s ≡ write at (replicate count b) s
+fill-short at count b s h = sym (write-out at (replicate count b) s (rw length-replicate (omega arith)))
+
+pub fill-far : (at count b : ℕ) (s : List ℕ) → length s - count < at → s ≡ write at (replicate count b) s
+fill-far at count b s h = sym (write-out at (replicate count b) s (rw length-replicate (omega arith)))

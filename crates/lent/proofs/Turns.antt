@@ -5,7 +5,7 @@ use mathlib.Core.List.{List, [], _∷_, _++_, append-nil}
 use native.Mathlib.Nat.{add-zero, zero-add}
 use native.Mathlib.Numerals.{add-one}
 use native.Mathlib.Omega.{arith}
-use lib.ListN.{length, take, drop, getD, set, length-append, take-append-drop, List·getD-append}
+use lib.ListN.{length, take, drop, getD, set, replicate, length-replicate, length-append, take-append-drop, List·getD-append}
 use lib.Seq.{getD-drop, getD-take, take-length}
 use Rattle.lent.specs.Parts.{part, patch}
 use Rattle.lent.proofs.Parts.{part-add, length-part, length-patch, patch-append, patch-prepend, set-patch, take-patch-le, drop-patch, drop-past, patch-eq, part-patch-before, part-patch-after}
@@ -53,6 +53,25 @@ back-step p f n t s h k =
     let c : n + 1 ≡ 1 + n = omega arith in
     let e : part f (1 + n) t ≡ getD t f 0 ∷ part (f + 1) n t = part-add f 1 n t ∙ ap (λ (x : List ℕ). x ++ part (f + 1) n t) (part-one f t (omega arith)) in
     rw (set-patch _ _ _ i, c, e) (patch-prepend p (getD t f 0 ∷ []) (part (f + 1) n t) s b)
+
+-- the turns of fill
+pub replicate-last : (n b : ℕ) → replicate n b ++ (b ∷ []) ≡ replicate (n + 1) b
+replicate-last n b = go n ∙ ap (λ (m : ℕ). replicate m b) (sym (add-one n))
+  where
+    go : (n : ℕ) → replicate n b ++ (b ∷ []) ≡ replicate (suc n) b
+    go zero = refl
+    go (suc n) = ap (λ (l : List ℕ). b ∷ l) (go n)
+
+pub filled-none : (at b : ℕ) (s : List ℕ) → s ≡ patch at (replicate 0 b) s
+filled-none at b s = sym (patch-none at s)
+
+pub fill-step : (at count i b : ℕ) (s₀ s : List ℕ) → at + count ≤ length s₀ → i < count → s ≡ patch at (replicate i b) s₀
+    → set s (at + i) b ≡ patch at (replicate (i + 1) b) s₀
+fill-step at count i b s₀ s h k e =
+    let l : length (replicate i b) ≡ i = length-replicate i b in
+    let f : at + length (replicate i b) ≤ length s₀ = rw l (omega arith) in
+    let j : at + i < length (patch at (replicate i b) s₀) = rw (length-patch at (replicate i b) s₀ f) (omega arith) in
+    rw (e, set-patch _ _ _ j, ← replicate-last i b) (rw l at (patch-append at (replicate i b) (b ∷ []) s₀ (rw l (omega arith))))
 
 -- a turn of close_gap
 pub close-step : (at end by i : ℕ) (s₀ s : List ℕ) → at ≤ i → i < end → end + by ≤ length s₀ → s ≡ patch at (part (at + by) (i - at) s₀) s₀

@@ -4,6 +4,7 @@ mod numbers;
 
 pub use moves::close_gap;
 pub use moves::copy_in;
+pub use moves::fill;
 pub use moves::open_gap;
 pub use numbers::get16;
 pub use numbers::get32;

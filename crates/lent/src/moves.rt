@@ -1,5 +1,6 @@
-// Bytes copied in, and bytes moved to open a gap or to close one.
+// Bytes copied in, one byte written many times, and bytes moved to open a gap or to close one.
 ghost use mathlib.Core.Path.{_≡_};
+ghost use lib.ListN.{replicate};
 ghost use Rattle.lent.specs.Total.{write, opened, closed};
 
 // Copies all of `bytes` to place `at` of s.
@@ -15,6 +16,23 @@ pub fn copy_in(s: &mut [u8], at: usize, bytes: &[u8])
     let mut i = 0;
     while i < bytes.len() {
         s[at + i] = bytes[i];
+        i += 1;
+    }
+}
+
+// Writes a byte `count` times from place `at` on.
+pub fn fill(s: &mut [u8], at: usize, count: usize, byte: u8)
+    ensures { λ _. ⌜ now (s .exit) ≡ write at (replicate count byte) (now (s .entry)) ⌝ }
+{
+    if s.len() < count {
+        return;
+    }
+    if s.len() - count < at {
+        return;
+    }
+    let mut i = 0;
+    while i < count {
+        s[at + i] = byte;
         i += 1;
     }
 }

@@ -3,12 +3,10 @@ use mathlib.Core.Path.{_≡_, refl, sym, ap, _∙_}
 use mathlib.Core.List.{List}
 use Prim.Native.Nat.{ℕ, _+_, _*_, _^_, _≤_, _<_}
 use native.Mathlib.Omega.{arith}
-use native.Mathlib.Nat.{zero-add}
 use lib.ListN.{length}
 use Rattle.lent.specs.Numbers.{bytes, be}
 use Rattle.lent.specs.Parts.{part}
 use Rattle.lent.specs.Total.{read}
-use Rattle.lent.proofs.Parts.{part-part}
 use Rattle.lent.proofs.Digits.{be-bytes}
 use Rattle.lent.proofs.Anywhere.{read-in}
 use Rattle.held.specs.Room.{Room, nodeCount, cellCount}
@@ -16,6 +14,7 @@ use Rattle.held.specs.Forest.{Forest, held}
 use Rattle.held.proofs.Bounds.{in-range}
 use Rattle.region.specs.Layout.{neededBytes, Used, headerBytes}
 use Rattle.region.specs.Store.{roomAt, usedBy, WrittenIn}
+use Rattle.region.proofs.Stores.{header-field}
 
 -- the header's counts
 module _ (kind : ℕ) (r : Room) (u : Used) where
@@ -36,7 +35,7 @@ module _ {X : Type 0} {kind : ℕ} {write : X → List ℕ} (F : Forest X) (s : 
   count-at : (o : ℕ) → o + 2 ≤ 18 → read 2 o s ≡ be (part o 2 (headerBytes kind (roomAt s) (usedBy F)))
   count-at o h =
       read-in 2 o s (omega (arith, w .long))
-      ∙ ap be (rw zero-add at (sym (part-part o 2 0 18 s h)) ∙ ap (part o 2) (w .header))
+      ∙ ap be (header-field kind (roomAt s) (usedBy F) s (w .header) o h)
 
   pub nodes-kept : read 2 10 s ≡ nodeCount (held F)
   nodes-kept = count-at 10 (omega arith) ∙ nodes-at kind (roomAt s) (usedBy F) (omega (arith, w .nodes-fit, in-range (roomAt s) (w .range) .nodes .1))

@@ -57,7 +57,7 @@ abbrev pub records : Form Stored
 records = record { write = storedBytes; read = storedOf; Small = SmallStored; long = stored-long; back = stored-back }
 
 -- a unit as it stands
-whole-long : (w : List ℕ) → length (whole w) ≡ 16
+pub whole-long : (w : List ℕ) → length (whole w) ≡ 16
 unfolding whole
 whole-long w = rw (length-take, length-append, length-replicate) (omega arith)
 
@@ -65,5 +65,5 @@ pub whole-back : (w : List ℕ) → length w ≡ 16 → whole w ≡ w
 unfolding whole
 whole-back w h = take-at w (replicate 16 0) 16 h
 
-pub wholes : Form (List ℕ)
+abbrev pub wholes : Form (List ℕ)
 wholes = record { write = whole; read = λ w. w; Small = Whole; long = whole-long; back = whole-back }

@@ -3,3 +3,5 @@ pub mod Decoded
 pub mod Instances
 pub mod Stores
 pub mod CountLaws
+pub mod ShapeLaws
+pub mod Fitted

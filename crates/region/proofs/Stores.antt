@@ -27,22 +27,32 @@ use Rattle.region.proofs.Sizes.{length-header}
 use Rattle.region.proofs.Decoded.{decode-none}
 
 -- the header's numbers
-module _ (kind : ℕ) (r : Room) where
-  nodes-read : r .nodes < 65536 → be (part 4 2 (headerBytes kind r nothing)) ≡ r .nodes
+module _ (kind : ℕ) (r : Room) (u : Used) where
+  nodes-read : r .nodes < 65536 → be (part 4 2 (headerBytes kind r u)) ≡ r .nodes
   unfolding headerBytes bytes part
   nodes-read h = be-bytes 2 (r .nodes) h
 
-  pairs-read : r .pairs < 65536 → be (part 6 2 (headerBytes kind r nothing)) ≡ r .pairs
+  pairs-read : r .pairs < 65536 → be (part 6 2 (headerBytes kind r u)) ≡ r .pairs
   unfolding headerBytes bytes part
   pairs-read h = be-bytes 2 (r .pairs) h
 
-  cells-read : r .cells < 65536 → be (part 8 2 (headerBytes kind r nothing)) ≡ r .cells
+  cells-read : r .cells < 65536 → be (part 8 2 (headerBytes kind r u)) ≡ r .cells
   unfolding headerBytes bytes part
   cells-read h = be-bytes 2 (r .cells) h
 
-  none-read : be (part 16 2 (headerBytes kind r nothing)) ≡ 0
-  unfolding headerBytes bytes part be
-  none-read = refl
+  pub units-read : u .units < 65536 → be (part 16 2 (headerBytes kind r u)) ≡ u .units
+  unfolding headerBytes bytes part
+  units-read h = be-bytes 2 (u .units) h
+
+  -- a region with this header says of itself that it has these capacities
+  module _ (s : List ℕ) (e : part 0 18 s ≡ headerBytes kind r u) where
+    pub header-field : (o : ℕ) → o + 2 ≤ 18 → part o 2 s ≡ part o 2 (headerBytes kind r u)
+    header-field o h = rw zero-add at (sym (part-part o 2 0 18 s h)) ∙ ap (part o 2) e
+
+    pub header-room : inRange r ≡ true → roomAt s ≡ r
+    header-room range =
+        let i = in-range r range in
+        rw (header-field 4 (omega arith), header-field 6 (omega arith), header-field 8 (omega arith), nodes-read (omega (arith, i .nodes .1)), pairs-read (omega (arith, i .pairs .1)), cells-read (omega (arith, i .cells .1)))
 
 -- what an opened region says of itself
 module _ (kind : ℕ) (r : Room) (s : List ℕ) (range : inRange r ≡ true) (long : neededBytes r ≤ length s) where
@@ -52,18 +62,13 @@ module _ (kind : ℕ) (r : Room) (s : List ℕ) (range : inRange r ≡ true) (lo
   pub opened-header : part 0 18 (patch 0 (headerBytes kind r nothing) s) ≡ headerBytes kind r nothing
   opened-header = rw length-header at (part-patch 0 (headerBytes kind r nothing) s head-fits)
 
-  field : (o : ℕ) → o + 2 ≤ 18 → part o 2 (patch 0 (headerBytes kind r nothing) s) ≡ part o 2 (headerBytes kind r nothing)
-  field o h = rw zero-add at (sym (part-part o 2 0 18 (patch 0 (headerBytes kind r nothing) s) h)) ∙ ap (part o 2) opened-header
-
   pub opened-room : roomAt (patch 0 (headerBytes kind r nothing) s) ≡ r
-  opened-room =
-      let i = in-range r range in
-      rw (field 4 (omega arith), field 6 (omega arith), field 8 (omega arith), nodes-read kind r (omega (arith, i .nodes .1)), pairs-read kind r (omega (arith, i .pairs .1)), cells-read kind r (omega (arith, i .cells .1)))
+  opened-room = header-room kind r nothing (patch 0 (headerBytes kind r nothing) s) opened-header range
 
   pub opened-forest : {X : Type 0} (read : List ℕ → X) → forestAt read (patch 0 (headerBytes kind r nothing) s) ≡ leaf
   unfolding decode part
   opened-forest read =
-      let z : be (part 16 2 (patch 0 (headerBytes kind r nothing) s)) ≡ 0 = ap be (field 16 (omega arith)) ∙ none-read kind r in
+      let z : be (part 16 2 (patch 0 (headerBytes kind r nothing) s)) ≡ 0 = ap be (header-field kind r nothing (patch 0 (headerBytes kind r nothing) s) opened-header 16 (omega arith)) ∙ units-read kind r nothing (omega arith) in
       rw z (decode-none read 0 [] refl)
 
   pub opened-written : {X : Type 0} (write : X → List ℕ) → WrittenIn kind write leaf (patch 0 (headerBytes kind r nothing) s)

@@ -4,3 +4,4 @@ pub mod Forms
 pub mod Opening
 pub mod Decode
 pub mod Store
+pub mod Shapes

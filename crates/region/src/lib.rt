@@ -1,9 +1,12 @@
 // The region of a store: its header, the bytes that it needs, and opening it. specs/Layout.antt has the drawing.
 mod counts;
+mod header;
 
 pub use counts::cells_size;
 pub use counts::nodes_size;
 pub use counts::values_size;
+pub use header::capacities_of;
+pub use header::shape_of;
 ghost use mathlib.Core.Path.{_≡_};
 ghost use Prim.Native.Nat.{_/_, _%_, _≤_};
 ghost use mathlib.Core.Bool.{true};
@@ -38,6 +41,16 @@ pub struct Capacities {
 pub enum Size {
     Bytes(u64),
     Refused(Refusal),
+}
+
+// The units of a region: where they begin, how many are in use, and how many there is room for; or the header is no store's.
+pub enum Shape {
+    Units {
+        base: usize,
+        used: usize,
+        room: usize,
+    },
+    Not,
 }
 
 // 1 to `most`.

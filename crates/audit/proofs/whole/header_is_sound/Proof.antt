@@ -4,8 +4,8 @@ use Rattle.audit.proofs.WholeLaws.{header-range, header-short, header-m
 use Rattle.audit.proofs.whole.header_is_sound.Statement.{statement}
 use Rattle.audit.proofs.whole.header_is_sound.Tie as tie
 
-capacities-at-requires : tie.Need-capacities-at-requires
-capacities-at-requires c κs = search needs
+capacities-of-requires : tie.Need-capacities-of-requires
+capacities-of-requires c κs = search needs
 
 needed-requires : tie.Need-needed-requires
 needed-requires c κs = search needs
@@ -41,7 +41,7 @@ pub header-is-sound-spec : {M : Type 1} → statement M
 header-is-sound-spec =
     tie.close
     (tie.spec
-    capacities-at-requires
+    capacities-of-requires
     needed-requires
     enum-known-size
     enum-told

@@ -1,0 +1,13 @@
+pub mod WayLaws
+pub mod BelowLaws
+pub mod Gaps
+pub mod ReachLaws
+pub mod ChainLaws
+pub mod ViewLaws
+pub mod HeaderLaws
+pub mod HoldsLaws
+pub mod PlaceLaws
+pub mod EditLaws
+pub mod CutLaws
+pub mod FoundLaws
+pub mod StoreLaws

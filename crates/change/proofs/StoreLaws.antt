@@ -1,0 +1,62 @@
+-- A store holds the forest that is decoded from it; and a region that holds a well-formed forest is a store of it. Assumes nothing.
+use mathlib.Core.Path.{_≡_, refl, sym, ap, subst, _∙_}
+use mathlib.Core.List.{List, [], _∷_, _++_}
+use mathlib.Core.Option.{Option, none, some}
+use Prim.Native.Nat.{ℕ, _+_, _*_, _%_, _^_, _≤_, _<_}
+use native.Mathlib.Omega.{arith}
+use lib.ListN.{length}
+use Rattle.lent.specs.Numbers.{bytes, be}
+use Rattle.lent.specs.Parts.{part}
+use Rattle.lent.proofs.Digits.{be-bytes, bytes-mod}
+use Rattle.topic.specs.Rules.{filterRules, nameRules}
+use Rattle.held.specs.Order.{Filter}
+use Rattle.held.specs.Ascending.{All}
+use Rattle.held.specs.Forest.{Forest, leaf, held, Rows}
+use Rattle.held.specs.Edit.{Full, WellFormed}
+use Rattle.region.specs.Layout.{unitRoom, unitsF, unitBytes}
+use Rattle.region.specs.Units.{valueBytes, valueOf}
+use Rattle.region.specs.Forms.{Form, Fits}
+use Rattle.region.specs.Decode.{decode}
+use Rattle.region.specs.Store.{roomAt, forestAt, usedBy, WrittenIn, Accepts, SubscriptionStore}
+use Rattle.region.proofs.Sizes.{few-units}
+use Rattle.region.proofs.Stores.{header-field, units-read, units-fit}
+use Rattle.region.proofs.Decoded.{decode-units}
+use Rattle.region.proofs.Fitted.{fits-back}
+use Rattle.region.proofs.Instances.{values}
+use Rattle.change.specs.Holds.{Holds}
+
+-- the units that a header tells of are those of the forest
+module _ {X : Type 0} (u : Form X) (kind : ℕ) (s : List ℕ) (F : Forest X) (w : WrittenIn kind (u .write) F s) (rows : Rows F) (full : Full F) where
+  units-few : unitsF F < 65536
+  units-few = omega (arith, units-fit F rows full, w .nodes-fit, w .pairs-fit, w .cells-fit, few-units (roomAt s) (w .range))
+
+  pub used-is : be (part 16 2 s) ≡ unitsF F
+  used-is = ap be (header-field kind (roomAt s) (usedBy F) s (w .header) 16 (omega arith)) ∙ units-read kind (roomAt s) (usedBy F) units-few
+
+  decoded : forestAt (u .read) s ≡ decode (u .read) (unitBytes (u .write) F)
+  decoded = rw (used-is, w .units)
+
+  pub forest-is : Fits (u .Small) F → forestAt (u .read) s ≡ F
+  forest-is f = decoded ∙ decode-units u F f
+
+  pub holds-of : ((x : X) → u .read (u .write x) ≡ x → u .Small x) → forestAt (u .read) s ≡ F → Holds u kind s F
+  holds-of back e = record { written = w; rows = rows; full = full; fits = fits-back u back F units-few (sym decoded ∙ e) }
+
+-- a value that is read back is small
+value-small : (v : ℕ) → valueOf (valueBytes v) ≡ v → v < 256 ^ 4
+unfolding valueOf valueBytes bytes part
+value-small v e =
+    let z : be (bytes 4 v) ≡ v % 4294967296 = ap be (sym (bytes-mod 4 v)) ∙ be-bytes 4 (v % 4294967296) (omega arith) in
+    let y : be (bytes 4 v) ≡ v = e in
+    omega (arith, z, y)
+
+-- a store of subscriptions holds its forest
+pub store-holds : (s : List ℕ) → SubscriptionStore s → Holds values 1 s (forestAt valueOf s)
+store-holds s w = holds-of values 1 s (forestAt valueOf s) (w .written) (w .well .rows) (w .well .full) value-small refl
+
+-- and a region that holds a well-formed forest with accepted texts is a store
+pub holds-store : (s : List ℕ) (F : Forest ℕ) → Holds values 1 s F → WellFormed F → All (λ (e : Filter × ℕ). Accepts filterRules (e .0)) (held F)
+    → SubscriptionStore s × (forestAt valueOf s ≡ F)
+holds-store s F h w t =
+    let e : forestAt valueOf s ≡ F = forest-is values 1 s F (h .written) (h .rows) (h .full) (h .fits) in
+    (record { written = rw e (h .written); well = rw e w; texts = rw e t }, e)

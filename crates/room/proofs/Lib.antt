@@ -1,0 +1,6 @@
+pub mod Middle
+pub mod RunLaws
+pub mod BelowLaws
+pub mod MakeLaws
+pub mod StayLaws
+pub mod FitLaws

@@ -1,0 +1,14 @@
+pub mod Beside
+pub mod Marks
+pub mod Parted
+pub mod StepLaws
+pub mod Compared
+pub mod Turns
+pub mod Halving
+pub mod Found
+pub mod Descent
+pub mod PathNodes
+pub mod PathLaws
+pub mod Holds
+pub mod Raw
+pub mod Examples

@@ -1,0 +1,3 @@
+pub mod Child
+pub mod Probe
+pub mod PathFound

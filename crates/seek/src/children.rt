@@ -1,0 +1,98 @@
+// A child of a row, by its level.
+ghost use mathlib.Core.Path.{_≡_};
+ghost use Prim.Native.Nat.{_+_, _≤_, _<_, max};
+ghost use lib.ListN.{length};
+ghost use Rattle.forest.specs.Places.{unitAt};
+ghost use Rattle.forest.specs.Stands.{rawIn, RawStands};
+ghost use Rattle.seek.specs.Child.{childOf, Inside};
+ghost use Rattle.seek.specs.Probe.{Probed};
+use crate::Child;
+use crate::Probe;
+use forest::Order;
+
+// From the unit mid back to the sibling that holds it; where that is far, the row's first, with eight to pass.
+fn step_back(s: &[u8], a: usize, mid: usize, b: usize, d: usize) -> Probe
+    requires { ⌜ (a ≤ mid) × (mid < b) × (64 + b ≤ length (now s)) ⌝ }
+    ensures { λ r. ⌜ Probed (now (s .entry)) d a b r ⌝ }
+{
+    let mut m = mid;
+    let mut left: usize = 64;
+    while a < m {
+        if s[64 + m] as usize <= d {
+            return Probe {
+                node: m,
+                mid,
+                few: 0,
+            };
+        }
+        if left == 0 {
+            return Probe {
+                node: a,
+                mid: a,
+                few: 8,
+            };
+        }
+        left -= 1;
+        m -= 1;
+    }
+    Probe {
+        node: m,
+        mid,
+        few: 0,
+    }
+}
+
+// Where to look in the units from a up to b: at the first sibling while few are passed, then in the middle.
+fn probe(s: &[u8], a: usize, b: usize, d: usize, few: usize) -> Probe
+    requires { ⌜ (a < b) × (64 + b ≤ length (now s)) ⌝ }
+    ensures { λ r. ⌜ Probed (now (s .entry)) d a b r ⌝ }
+{
+    if 0 < few {
+        return Probe {
+            node: a,
+            mid: a,
+            few: few - 1,
+        };
+    }
+    step_back(s, a, a + (b - a) / 2, b, d)
+}
+
+fn larger(a: usize, b: usize) -> usize
+    ensures { λ r. ⌜ r ≡ max a b ⌝ }
+{
+    if a < b { b } else { a }
+}
+
+// The child with a level, in the row at depth d whose units go from lo up to hi.
+pub fn find_child(s: &[u8], base: usize, lo: usize, hi: usize, d: usize, level: &[u8]) -> Child
+    requires { ⌜ (unitAt base hi ≤ length (now s)) × (64 + hi ≤ base) × (d < 255) ⌝ }
+    ensures { λ v. ⌜ (RawStands base (now (s .entry)) d lo hi → v ≡ childOf (now (level .entry)) lo (rawIn base (now (s .entry)) lo hi)) × Inside lo hi v ⌝ }
+{
+    let mut a = lo;
+    let mut b = hi;
+    let mut few: usize = 8;
+    while a < b {
+        let p = probe(s, a, b, d, few);
+        let m = p.node;
+        let mid = p.mid;
+        few = p.few;
+        let r = forest::row_at(s, base, m, b);
+        let o = forest::compare(forest::level_at(s, base, m, b), level);
+        match o {
+            Order::Less => {
+                a = larger(r.past, mid + 1);
+            }
+            Order::Equal => {
+                return Child::At {
+                    node: m,
+                    end: r.end,
+                    past: r.past,
+                };
+            }
+            Order::Greater => {
+                b = m;
+            }
+        }
+    }
+    Child::Nothing { place: a }
+}

@@ -1,0 +1,4 @@
+pub mod SpotLaws
+pub mod ValueLaws
+pub mod StepLaws
+pub mod LastLaws

@@ -1,0 +1,78 @@
+-- The turns of the search for a value. Assumes nothing.
+use mathlib.Core.Path.{_≡_, refl, sym, ap, _∙_}
+use mathlib.Core.Bool.{true, false}
+use mathlib.Core.List.{List, [], _∷_}
+use Prim.Native.Nat.{ℕ, zero, suc, _+_, _-_, _*_, _≤_, _<_}
+use native.Mathlib.Omega.{arith}
+use native.Mathlib.Nat.{add-zero}
+use native.Mathlib.Numerals.{add-one}
+use lib.Dec.{eqb, ltb}
+use lib.ListN.{length}
+use borrow.Author.Tests.{eq-eqb, ne-eqb, lt-ltb, le-ltb}
+use Rattle.lent.specs.Total.{read}
+use Rattle.forest.specs.Places.{unitAt}
+use Rattle.trie.specs.declared.Spot.{Spot}
+use Rattle.trie.specs.declared.Spot.the-variants.{At, Nothing}
+use Rattle.trie.specs.Values.{valuesFrom, spotFrom}
+
+values-some : (base : ℕ) (s : List ℕ) (i n : ℕ) → 0 < n → valuesFrom base s i n ≡ read 4 (unitAt base i) s ∷ valuesFrom base s (i + 1) (n - 1)
+unfolding valuesFrom
+values-some base s i zero h = absurd (omega arith)
+values-some base s i (suc n) h =
+    let z : suc n - 1 ≡ n = omega arith in
+    rw (z, add-one)
+
+values-none : (base : ℕ) (s : List ℕ) (i n : ℕ) → n ≤ 0 → valuesFrom base s i n ≡ []
+unfolding valuesFrom
+values-none base s i zero h = refl
+values-none base s i (suc n) h = absurd (omega arith)
+
+spot-on : (k x v : ℕ) (vs : List ℕ) → v < x → spotFrom k x (v ∷ vs) ≡ spotFrom (k + 1) x vs
+unfolding spotFrom
+spot-on k x v vs h = rw (lt-ltb v x h, add-one)
+
+spot-here : (k x v : ℕ) (vs : List ℕ) → v ≡ x → spotFrom k x (v ∷ vs) ≡ At k
+unfolding spotFrom
+spot-here k x v vs e = rw (le-ltb v x (omega (arith, e)), eq-eqb v x e)
+
+spot-past : (k x v : ℕ) (vs : List ℕ) → x < v → spotFrom k x (v ∷ vs) ≡ Nothing k
+unfolding spotFrom
+spot-past k x v vs h = rw (le-ltb v x (omega arith), ne-eqb v x (λ (e : v ≡ x). omega (arith, e)))
+
+spot-none : (k x : ℕ) → spotFrom k x [] ≡ Nothing k
+unfolding spotFrom
+spot-none k x = refl
+
+-- what is left has the answer of all
+pub record SpotLeft (base : ℕ) (s : List ℕ) (i own x k : ℕ) : Type 0 where
+  pub same : spotFrom k x (valuesFrom base s (i + k) (own - k)) ≡ spotFrom 0 x (valuesFrom base s i own)
+  pub on : k ≤ own
+
+pub spot-begin : (base : ℕ) (s : List ℕ) (i own x : ℕ) → SpotLeft base s i own x 0
+spot-begin base s i own x =
+    let z : own - 0 ≡ own = omega arith in
+    record { same = rw (z, add-zero); on = omega arith }
+
+module _ (base : ℕ) (s : List ℕ) (i own x k : ℕ) (r : SpotLeft base s i own x k) where
+  module _ (h : k < own) {v : ℕ} (e : v ≡ read 4 (base + (i + k) * 16) s) where
+    first : valuesFrom base s (i + k) (own - k) ≡ v ∷ valuesFrom base s (i + (k + 1)) (own - (k + 1))
+    first =
+        let a : i + k + 1 ≡ i + (k + 1) = omega arith in
+        let b : own - k - 1 ≡ own - (k + 1) = omega arith in
+        values-some base s (i + k) (own - k) (omega arith) ∙ rw (a, b, ← e)
+
+    pub spot-found : v ≤ x → x ≤ v → At k ≡ spotFrom 0 x (valuesFrom base s i own)
+    spot-found p q = sym (spot-here k x v (valuesFrom base s (i + (k + 1)) (own - (k + 1))) (omega arith)) ∙ ap (spotFrom k x) (sym first) ∙ r .same
+
+    pub spot-before : x < v → Nothing k ≡ spotFrom 0 x (valuesFrom base s i own)
+    spot-before q = sym (spot-past k x v (valuesFrom base s (i + (k + 1)) (own - (k + 1))) q) ∙ ap (spotFrom k x) (sym first) ∙ r .same
+
+    pub spot-again : v < x → SpotLeft base s i own x (k + 1)
+    spot-again p =
+        record {
+          same = sym (spot-on k x v (valuesFrom base s (i + (k + 1)) (own - (k + 1))) p) ∙ ap (spotFrom k x) (sym first) ∙ r .same;
+          on = omega arith;
+        }
+
+  pub spot-end : own ≤ k → Nothing k ≡ spotFrom 0 x (valuesFrom base s i own)
+  spot-end h = sym (spot-none k x) ∙ ap (spotFrom k x) (sym (values-none base s (i + k) (own - k) (omega arith))) ∙ r .same
