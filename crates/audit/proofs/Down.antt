@@ -12,7 +12,7 @@ use Rattle.region.specs.Layout.{levelUnits, rowUnits, unitsF, headBytes, levelB
 use Rattle.region.specs.Forms.{Form}
 use Rattle.region.proofs.Decoded.{length-head, length-level, length-row, length-units}
 use Rattle.forest.specs.Places.{unitAt}
-use Rattle.content.proofs.Octets.{part-both, part-front, part-back}
+use Rattle.content.proofs.PartLaws.{part-both, part-front, part-back}
 
 -- the marks of a forest are as many as its units
 pub length-marks : {X : Type 0} (d : ℕ) (F : Forest X) → length (marksOf d F) ≡ unitsF F

@@ -19,7 +19,7 @@ use Rattle.region.specs.Layout.{unitRoom, neededBytes, Used, headerBytes}
 use Rattle.region.specs.Opening.{kindByte}
 use Rattle.region.specs.Store.{roomAt}
 use Rattle.audit.specs.Whole.{markOf, leftAt, usedUnits, usedFine, headerFine}
-use Rattle.content.proofs.Octets.{Octets, bytes-part, part-number, part-both}
+use Rattle.content.proofs.PartLaws.{AreBytes, bytes-part, part-number, part-both}
 
 -- the tests of a header, one by one
 pub record HeaderFine (k : Kind) (s : List ℕ) : Type 0 where
@@ -81,7 +81,7 @@ mark-small Retained = omega arith
 
 module _ (k : Kind) (s : List ℕ) (u : Used) where
   -- the numbers of a header, one after another
-  pub header-bytes : Octets s → 64 ≤ length s → be (part 0 4 s) ≡ markOf k → u .nodes ≡ be (part 10 2 s) → u .pairs ≡ be (part 12 2 s) → u .cells ≡ be (part 14 2 s) → u .units ≡ be (part 16 2 s)
+  pub header-bytes : AreBytes s → 64 ≤ length s → be (part 0 4 s) ≡ markOf k → u .nodes ≡ be (part 10 2 s) → u .pairs ≡ be (part 12 2 s) → u .cells ≡ be (part 14 2 s) → u .units ≡ be (part 16 2 s)
       → part 0 18 s ≡ headerBytes (kindByte k) (roomAt s) u
   unfolding headerBytes
   header-bytes o h m en ep ec eu =

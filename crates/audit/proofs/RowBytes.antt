@@ -19,17 +19,17 @@ use Rattle.region.specs.declared.Kind.{Kind}
 use Rattle.forest.specs.Places.{unitAt, lenAt, ownAt, belowAt, levelUnitsAt, rowEnd, kidsEnd, levelIn, ownIn}
 use Rattle.content.specs.Contents.{every, ownFine}
 use Rattle.audit.specs.Tests.{heldAt, endAt, pastAt, marksFine, fillFine}
-use Rattle.content.proofs.Octets.{Octets, octets-drop, octets-part, bytes-part, part-number, part-both, part-front, part-back, every-is, is-every, units-length, units-take}
+use Rattle.content.proofs.PartLaws.{AreBytes, are-drop, are-part, bytes-part, part-number, part-both, part-front, part-back, every-is, is-every, units-length, units-take}
 use Rattle.content.proofs.Holdings.{Holding}
 use Rattle.audit.proofs.Down.{RowHere}
 
 -- a number of two bytes
-pub number-small : (p : ℕ) (s : List ℕ) → Octets s → p + 2 ≤ length s → be (part p 2 s) < 65536
+pub number-small : (p : ℕ) (s : List ℕ) → AreBytes s → p + 2 ≤ length s → be (part p 2 s) < 65536
 number-small p s o h =
-    let b : be (part p 2 s) < 256 ^ length (part p 2 s) = be-lt (part p 2 s) (octets-part p 2 s o) in
+    let b : be (part p 2 s) < 256 ^ length (part p 2 s) = be-lt (part p 2 s) (are-part p 2 s o) in
     rw (length-part p 2 s h) at b
 
-module _ {X : Type 0} {kind : Kind} (u : Holding X kind) (base : ℕ) (s : List ℕ) (o : Octets s) (i n : ℕ) (some : i < n) (within : unitAt base n ≤ length s) (marked : 64 + n ≤ base) where
+module _ {X : Type 0} {kind : Kind} (u : Holding X kind) (base : ℕ) (s : List ℕ) (o : AreBytes s) (i n : ℕ) (some : i < n) (within : unitAt base n ≤ length s) (marked : 64 + n ≤ base) where
   pub own-length : length (ownIn (u .form .read) base s i n) ≡ ownAt base s i
   unfolding ownIn
   own-length = units-length (u .form .read) (ownAt base s i) (part (unitAt base (i + levelUnitsAt base s i)) ((n - (i + levelUnitsAt base s i)) * 16) s)
@@ -99,7 +99,7 @@ module _ {X : Type 0} {kind : Kind} (u : Holding X kind) (base : ℕ) (s : List 
         → (part (unitAt base (i + levelUnits (levelIn base s i n))) (length (ownIn (u .form .read) base s i n) * 16) s ≡ each (u .form .write) (ownIn (u .form .read) base s i n))
         × u .Fit (ownIn (u .form .read) base s i n)
     holds-yes e =
-        let r = u .yes (ownAt base s i) (drop (unitAt base (heldAt base s i)) s) (octets-drop (unitAt base (heldAt base s i)) s o) room-held e in (
+        let r = u .yes (ownAt base s i) (drop (unitAt base (heldAt base s i)) s) (are-drop (unitAt base (heldAt base s i)) s o) room-held e in (
           rw (level-length, own-length, own-is) (sym take-held ∙ sym (r .0)),
           rw own-is (r .1),
         )

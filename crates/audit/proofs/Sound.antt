@@ -23,7 +23,7 @@ use Rattle.audit.specs.declared.Tally.the-variants.{Sound, Unsound}
 use Rattle.audit.specs.Tests.{endAt, pastAt, nodeFine}
 use Rattle.audit.specs.Tally.{onSound, taken, tally}
 use Rattle.audit.specs.Fine.{Follows, Audited}
-use Rattle.content.proofs.Octets.{Octets}
+use Rattle.content.proofs.PartLaws.{AreBytes}
 use Rattle.content.proofs.Holdings.{Holding}
 use Rattle.audit.proofs.Down.{WrittenAt, RowHere, fork-yes, fork-no}
 use Rattle.audit.proofs.Turns.{tally-none, tally-some, Took, took, takes, sound-is, unsound-not}
@@ -49,13 +49,14 @@ module _ {X : Type 0} where
   unfolding held
   held-fork l v k n = simp (length-append, length-map)
 
-same : (a b : Left) → a .nodes ≡ b .nodes → a .pairs ≡ b .pairs → a .cells ≡ b .cells → a ≡ b
-same a b p q r =
+-- what is left, count by count
+pub same-left : (a b : Left) → a .nodes ≡ b .nodes → a .pairs ≡ b .pairs → a .cells ≡ b .cells → a ≡ b
+same-left a b p q r =
     ap {B = Left} (λ (x : ℕ). record { nodes = x; pairs = a .pairs; cells = a .cells }) p
     ∙ ap {B = Left} (λ (x : ℕ). record { nodes = b .nodes; pairs = x; cells = a .cells }) q
     ∙ ap {B = Left} (λ (x : ℕ). record { nodes = b .nodes; pairs = b .pairs; cells = x }) r
 
-module _ {X : Type 0} {kind : Kind} (u : Holding X kind) (base : ℕ) (s : List ℕ) (o : Octets s) where
+module _ {X : Type 0} {kind : Kind} (u : Holding X kind) (base : ℕ) (s : List ℕ) (o : AreBytes s) where
   abbrev It : (d room i n : ℕ) → Left → Left → Forest X → Type 0
   It d room i n a b F = Audited kind (u .Fit) (u .form .write) base s d room i n a b F
 
@@ -73,7 +74,7 @@ module _ {X : Type 0} {kind : Kind} (u : Holding X kind) (base : ℕ) (s : List 
       let e0 : a .nodes ≡ b .nodes = omega (arith, x .nodes) in
       let e1 : a .pairs ≡ b .pairs = omega (arith, x .pairs) in
       let e2 : a .cells ≡ b .cells = omega (arith, x .cells) in
-      same a b e0 e1 e2
+      same-left a b e0 e1 e2
 
   -- a row, and what is below and behind it
   module _ (d room i n : ℕ) (some : i < n) (within : unitAt base n ≤ length s) (marked : 64 + n ≤ base) where

@@ -33,9 +33,9 @@ use Rattle.content.specs.Texts.{rulesOf, TextFine}
 use Rattle.audit.specs.Fine.{Fine, Audited}
 use Rattle.audit.specs.Whole.{leftAt, usedUnits, unitsBase, none, allTaken, headerFine, storeFine}
 use Rattle.audit.specs.Decides.{StoreOf, Decides}
-use Rattle.content.proofs.Octets.{Octets}
+use Rattle.content.proofs.PartLaws.{AreBytes}
 use Rattle.content.proofs.Holdings.{Holding, held-values, held-records}
-use Rattle.audit.proofs.Sound.{audit-sound, audit-passes}
+use Rattle.audit.proofs.Sound.{same-left, audit-sound, audit-passes}
 use Rattle.audit.proofs.Headers.{HeaderFine, header-yes, header-no, header-bytes, mark-back, nodes-back, pairs-back, cells-back, units-back}
 use Rattle.audit.proofs.Wells.{fine-rows, fine-ends, fine-owns, fine-full, fine-texts, fine-starts, wells-fine, names-end, held-path, held-hash}
 use Rattle.content.proofs.Accepted.{text-levels, levels-text, accepted-text, text-accepted}
@@ -51,15 +51,13 @@ none-is a e =
     let x : a .nodes ≡ 0 = eqb-true (a .nodes) 0 p in
     let y : a .pairs ≡ 0 = eqb-true (a .pairs) 0 (and-left (eqb (a .pairs) 0) (eqb (a .cells) 0) q) in
     let z : a .cells ≡ 0 = eqb-true (a .cells) 0 (and-right (eqb (a .pairs) 0) (eqb (a .cells) 0) q) in
-    ap {B = Left} (λ (n : ℕ). record { nodes = n; pairs = a .pairs; cells = a .cells }) x
-    ∙ ap {B = Left} (λ (n : ℕ). record { nodes = 0; pairs = n; cells = a .cells }) y
-    ∙ ap {B = Left} (λ (n : ℕ). record { nodes = 0; pairs = 0; cells = n }) z
+    same-left a nothing x y z
 
 taken-is : (t : Tally) → allTaken t ≡ true → t ≡ Sound nothing
 taken-is (Sound a) e = ap (λ (b : Left). Sound b) (none-is a e)
 taken-is Unsound e = absurd (true≢false (sym e))
 
-module _ {X : Type 0} {kind : Kind} (u : Holding X kind) (s : List ℕ) (o : Octets s) where
+module _ {X : Type 0} {kind : Kind} (u : Holding X kind) (s : List ℕ) (o : AreBytes s) where
   abbrev F : Forest X
   F = forestAt (u .form .read) s
 
@@ -169,7 +167,7 @@ module _ {X : Type 0} {kind : Kind} (u : Holding X kind) (s : List ℕ) (o : Oct
   )
 
 -- the two kinds
-module _ (s : List ℕ) (o : Octets s) where
+module _ (s : List ℕ) (o : AreBytes s) where
   pub subscriptions-yes : Kept held-values s o → SubscriptionStore s
   subscriptions-yes k =
       let f = k .fine in
@@ -215,7 +213,7 @@ module _ (s : List ℕ) (o : Octets s) where
       }
 
 -- "The test decides it exactly": true of a store of the kind, and of nothing else
-pub decided : (k : Kind) (s : List ℕ) → Octets s → Decides (storeFine k s) (StoreOf k s)
+pub decided : (k : Kind) (s : List ℕ) → AreBytes s → Decides (storeFine k s) (StoreOf k s)
 decided Subscriptions s o = record { yes = λ e. subscriptions-yes s o (kept-yes held-values s o e); no = λ r. kept-no held-values s o (subscriptions-no s o r) }
 decided Retained s o = record { yes = λ e. retained-yes s o (kept-yes held-records s o e); no = λ r. kept-no held-records s o (retained-no s o r) }
 

@@ -28,7 +28,7 @@ use Rattle.audit.specs.declared.Tally.{Tally}
 use Rattle.audit.specs.Tally.{tally}
 use Rattle.audit.specs.Whole.{markOf, leftAt, usedUnits, unitsBase, none, allTaken, usedFine, headerFine, storeFine}
 use Rattle.audit.specs.Decides.{StoreOf, Decides}
-use Rattle.content.proofs.Octets.{Octets}
+use Rattle.content.proofs.PartLaws.{AreBytes}
 use Rattle.audit.proofs.Headers.{header-yes}
 use Rattle.audit.proofs.Stores.{decided}
 
@@ -153,5 +153,5 @@ module _ (k : Kind) (s : List ℕ) where
           rw (sym et ∙ not-false t ht) (ev ∙ ap allTaken (ex ∙ y))
 
 -- and so it tells exactly a store
-pub decides : (k : Kind) (s : List ℕ) → Octets s → {r : Bool} → r ≡ storeFine k s → Decides r (StoreOf k s)
+pub decides : (k : Kind) (s : List ℕ) → AreBytes s → {r : Bool} → r ≡ storeFine k s → Decides r (StoreOf k s)
 decides k s o e = rw e (decided k s o)

@@ -26,13 +26,13 @@ use Rattle.region.specs.declared.Kind.{Kind}
 use Rattle.region.specs.declared.Kind.the-variants.{Subscriptions, Retained}
 use Rattle.region.proofs.Instances.{values, records}
 use Rattle.content.specs.Contents.{upward, valuesFine, recordsFine, ownFine}
-use Rattle.content.proofs.Octets.{Octets, octets-drop, bytes-part, part-number}
+use Rattle.content.proofs.PartLaws.{AreBytes, are-drop, bytes-part, part-number}
 
 -- what the nodes of a kind of store hold, when it is in order, and that the test of its units tells
 pub record Holding (X : Type 0) (k : Kind) : Type 1 where
   pub form : Form X
   pub Fit : List X → Type 0
-  pub yes : (m : ℕ) (w : List ℕ) → Octets w → m * 16 ≤ length w → ownFine k m w ≡ true
+  pub yes : (m : ℕ) (w : List ℕ) → AreBytes w → m * 16 ≤ length w → ownFine k m w ≡ true
       → (each (form .write) (unitsTo (form .read) m w) ≡ take (m * 16) w) × Fit (unitsTo (form .read) m w)
   pub no : (m : ℕ) (w : List ℕ) → m * 16 ≤ length w → each (form .write) (unitsTo (form .read) m w) ≡ take (m * 16) w
       → Fit (unitsTo (form .read) m w) → ownFine k m w ≡ true
@@ -62,7 +62,7 @@ unfolding valueBytes bytes part be
 value-rest v = (refl, refl)
 
 module _ (w : List ℕ) (h : 16 ≤ length w) where
-  value-yes : Octets w → be (part 4 4 w) ≡ 0 → be (part 8 8 w) ≡ 0 → valueBytes (valueOf (take 16 w)) ≡ take 16 w
+  value-yes : AreBytes w → be (part 4 4 w) ≡ 0 → be (part 8 8 w) ≡ 0 → valueBytes (valueOf (take 16 w)) ≡ take 16 w
   unfolding valueBytes bytes
   value-yes o a b =
       ap (λ (x : ℕ). bytes 4 x ++ replicate 12 0) (value-first w)
@@ -100,14 +100,14 @@ unfolding unitsTo
 ascended zero w b = refl
 ascended (suc m) w b = rw (value-first w, value-second w) at (b .0)
 
-pub values-yes : (m : ℕ) (w : List ℕ) → Octets w → m * 16 ≤ length w → valuesFine m w ≡ true
+pub values-yes : (m : ℕ) (w : List ℕ) → AreBytes w → m * 16 ≤ length w → valuesFine m w ≡ true
     → (each valueBytes (unitsTo valueOf m w) ≡ take (m * 16) w) × AscValues (unitsTo valueOf m w)
 unfolding valuesFine unitsTo
 values-yes zero w o h e = (refl, tt)
 values-yes (suc m) w o h e =
     let p = and-left (nought w) (upward m w && valuesFine m (drop 16 w)) e in
     let q = and-right (nought w) (upward m w && valuesFine m (drop 16 w)) e in
-    let r = values-yes m (drop 16 w) (octets-drop 16 w o) (rw length-drop (omega arith)) (and-right (upward m w) (valuesFine m (drop 16 w)) q) in
+    let r = values-yes m (drop 16 w) (are-drop 16 w o) (rw length-drop (omega arith)) (and-right (upward m w) (valuesFine m (drop 16 w)) q) in
     let a : be (part 4 4 w) ≡ 0 = eqb-true (be (part 4 4 w)) 0 (and-left (eqb (be (part 4 4 w)) 0) (eqb (be (part 8 8 w)) 0) p) in
     let b : be (part 8 8 w) ≡ 0 = eqb-true (be (part 8 8 w)) 0 (and-right (eqb (be (part 4 4 w)) 0) (eqb (be (part 8 8 w)) 0) p) in (
       rw (value-yes w (omega arith) o a b, r .0) (sym (take-more m w)),
@@ -139,7 +139,7 @@ bytes-nought : bytes 4 0 ≡ 0 ∷ 0 ∷ 0 ∷ 0 ∷ []
 unfolding bytes
 bytes-nought = refl
 
-module _ (w : List ℕ) (h : 16 ≤ length w) (o : Octets w) where
+module _ (w : List ℕ) (h : 16 ≤ length w) (o : AreBytes w) where
   stored-some : be (part 4 4 w) ≡ 0x1000000 → storedBytes (storedOf (take 16 w)) ≡ take 16 w
   unfolding storedBytes storedOf
   stored-some e =
@@ -178,7 +178,7 @@ or-cases : (a b : Bool) → (a || b) ≡ true → (a ≡ true) ⊎ (b ≡ true)
 or-cases true b e = inl refl
 or-cases false b e = inr e
 
-pub records-yes : (m : ℕ) (w : List ℕ) → Octets w → m * 16 ≤ length w → recordsFine m w ≡ true
+pub records-yes : (m : ℕ) (w : List ℕ) → AreBytes w → m * 16 ≤ length w → recordsFine m w ≡ true
     → (each storedBytes (unitsTo storedOf m w) ≡ take (m * 16) w) × Single (unitsTo storedOf m w)
 unfolding recordsFine unitsTo
 records-yes zero w o h e = (refl, tt)

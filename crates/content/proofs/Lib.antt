@@ -1,6 +1,6 @@
 pub mod Joins
 pub mod Accepted
-pub mod Octets
+pub mod PartLaws
 pub mod Holdings
 pub mod UnitLaws
 pub mod LevelLaws

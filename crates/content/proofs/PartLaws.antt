@@ -19,28 +19,28 @@ use Rattle.region.specs.Decode.{unitsTo}
 use Rattle.content.specs.Contents.{every}
 
 -- a list of bytes
-abbrev pub Octets : List ℕ → Type 0
-Octets s = (i : ℕ) → getD s i 0 < 256
+abbrev pub AreBytes : List ℕ → Type 0
+AreBytes s = (i : ℕ) → getD s i 0 < 256
 
-pub octets-drop : (p : ℕ) (s : List ℕ) → Octets s → Octets (drop p s)
-octets-drop p s o i = rw (getD-drop p s i 0) (o (p + i))
+pub are-drop : (p : ℕ) (s : List ℕ) → AreBytes s → AreBytes (drop p s)
+are-drop p s o i = rw (getD-drop p s i 0) (o (p + i))
 
-octets-take : (w : ℕ) (s : List ℕ) → Octets s → Octets (take w s)
-octets-take w s o i =
+are-take : (w : ℕ) (s : List ℕ) → AreBytes s → AreBytes (take w s)
+are-take w s o i =
     ⊎-elim
     (λ (h : i < w). rw (getD-take w s i 0 h) (o i))
     (λ (h : w ≤ i). let e : getD (take w s) i 0 ≡ 0 = List·getD-eq-default (take w s) 0 {n = i} (rw length-take (omega arith)) in rw e (omega arith))
     (lt-or-ge i w)
 
-pub octets-part : (p w : ℕ) (s : List ℕ) → Octets s → Octets (part p w s)
-octets-part p w s o = rw (part-eq p w s) (octets-take w (drop p s) (octets-drop p s o))
+pub are-part : (p w : ℕ) (s : List ℕ) → AreBytes s → AreBytes (part p w s)
+are-part p w s o = rw (part-eq p w s) (are-take w (drop p s) (are-drop p s o))
 
 -- a number is written as the bytes that it was read from
-pub bytes-part : (p w : ℕ) (s : List ℕ) → Octets s → p + w ≤ length s → bytes w (be (part p w s)) ≡ part p w s
+pub bytes-part : (p w : ℕ) (s : List ℕ) → AreBytes s → p + w ≤ length s → bytes w (be (part p w s)) ≡ part p w s
 bytes-part p w s o h =
-    rw (length-part p w s h) at (bytes-be (part p w s) (octets-part p w s o))
+    rw (length-part p w s h) at (bytes-be (part p w s) (are-part p w s o))
 
-pub part-number : (p w x : ℕ) (s : List ℕ) → Octets s → p + w ≤ length s → be (part p w s) ≡ x → part p w s ≡ bytes w x
+pub part-number : (p w x : ℕ) (s : List ℕ) → AreBytes s → p + w ≤ length s → be (part p w s) ≡ x → part p w s ≡ bytes w x
 part-number p w x s o h e = sym (bytes-part p w s o h) ∙ ap (bytes w) e
 
 -- a part that is two lists one after the other
