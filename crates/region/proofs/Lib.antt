@@ -5,3 +5,4 @@ pub mod Stores
 pub mod CountLaws
 pub mod ShapeLaws
 pub mod Fitted
+pub mod FitLaws

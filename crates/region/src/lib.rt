@@ -1,10 +1,13 @@
 // The region of a store: its header, the bytes that it needs, and opening it. specs/Layout.antt has the drawing.
 mod counts;
+mod fit;
 mod header;
 
 pub use counts::cells_size;
 pub use counts::nodes_size;
 pub use counts::values_size;
+pub use fit::cells_of;
+pub use fit::room_for;
 pub use header::capacities_of;
 pub use header::shape_of;
 ghost use mathlib.Core.Path.{_≡_};

@@ -3,4 +3,3 @@ pub mod RunLaws
 pub mod BelowLaws
 pub mod MakeLaws
 pub mod StayLaws
-pub mod FitLaws

@@ -60,18 +60,6 @@ own-last tx next h = rw (levels-none tx next h)
 pub own-more : (tx : List ℕ) (next : ℕ) → next ≤ length tx → 0 ≡ lastOwn (levelsAt tx next)
 own-more tx next h = rw (levels-cons tx next h)
 
--- the cells of a level
-module _ (l : List ℕ) {a : Bool} (ea : a ≡ isOnly 43 l) where
-  pub cells-plus : a ≡ true → 0 ≡ levelCells l
-  cells-plus h = rw (sym ea ∙ h)
-
-  module _ (ha : a ≡ false) {b : Bool} (eb : b ≡ isOnly 35 l) where
-    pub cells-hash : b ≡ true → 0 ≡ levelCells l
-    cells-hash h = rw (sym ea ∙ ha, sym eb ∙ h)
-
-    pub cells-other : b ≡ false → (length l + 15) / 16 ≡ levelCells l
-    cells-other h = rw (sym ea ∙ ha, sym eb ∙ h)
-
 -- the units of a run by its first level
 pub units-on : (l : Level) (gs : Filter) → runUnits (l ∷ gs) ≡ levelUnits l + runUnits gs
 unfolding runUnits

@@ -5,7 +5,6 @@ ghost use mathlib.Core.List.{_∷_, _++_};
 ghost use lib.ListN.{length, replicate};
 ghost use Rattle.lent.specs.Parts.{patch};
 ghost use Rattle.level.specs.Places.{levelsAt};
-ghost use Rattle.held.specs.Room.{levelCells};
 ghost use Rattle.region.specs.Layout.{levelUnits, headBytes, levelBytes};
 ghost use Rattle.forest.specs.Places.{unitAt};
 ghost use Rattle.room.specs.Changes.{SmallLoad};
@@ -90,20 +89,6 @@ pub fn put_marks(s: &mut [u8], at: usize, text: &[u8], from: usize, units: usize
     lent::fill(s, i, 1, 255);
 }
 
-// '+' and '#' take no cell.
-fn cells_of(level: &[u8]) -> usize
-    requires { ⌜ length (now level) ≤ 65535 ⌝ }
-    ensures { λ r. ⌜ (r ≡ levelCells (now (level .entry))) × (r ≤ 4096) ⌝ }
-{
-    if level::is_only(level, b'+') {
-        return 0;
-    }
-    if level::is_only(level, b'#') {
-        return 0;
-    }
-    (level.len() + 15) / 16
-}
-
 // What new nodes for the levels of a text from place `from` on would take, where the last holds one.
 pub fn wanted_for(text: &[u8], from: usize) -> Load
     requires { ⌜ length (now text) ≤ 65535 ⌝ }
@@ -116,7 +101,7 @@ pub fn wanted_for(text: &[u8], from: usize) -> Load
     while p <= text.len() {
         let level = level::part_at(text, p);
         nodes += 1;
-        cells += cells_of(level);
+        cells += region::cells_of(level);
         units += (level.len() + 23) / 16;
         p += level.len() + 1;
     }

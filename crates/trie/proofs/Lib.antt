@@ -2,3 +2,5 @@ pub mod SpotLaws
 pub mod ValueLaws
 pub mod StepLaws
 pub mod LastLaws
+pub mod StoredPath
+pub mod InsertLaws

@@ -2,14 +2,16 @@
 use mathlib.Core.Path.{_≡_, refl, sym, ap, _∙_}
 use mathlib.Core.Bool.{true, false}
 use mathlib.Core.List.{List, [], _∷_}
-use Prim.Native.Nat.{ℕ, zero, suc, _+_, _-_, _*_, _≤_, _<_}
+use Prim.Native.Nat.{ℕ, zero, suc, _+_, _-_, _*_, _/_, _%_, _≤_, _<_}
 use native.Mathlib.Omega.{arith}
 use native.Mathlib.Nat.{add-zero}
 use native.Mathlib.Numerals.{add-one}
 use lib.Dec.{eqb, ltb}
 use lib.ListN.{length}
 use borrow.Author.Tests.{eq-eqb, ne-eqb, lt-ltb, le-ltb}
+use Rattle.lent.specs.Numbers.{bytes}
 use Rattle.lent.specs.Total.{read}
+use Rattle.region.specs.Units.{valueBytes}
 use Rattle.forest.specs.Places.{unitAt}
 use Rattle.trie.specs.declared.Spot.{Spot}
 use Rattle.trie.specs.declared.Spot.the-variants.{At, Nothing}
@@ -76,3 +78,9 @@ module _ (base : ℕ) (s : List ℕ) (i own x k : ℕ) (r : SpotLeft base s i ow
 
   pub spot-end : own ≤ k → Nothing k ≡ spotFrom 0 x (valuesFrom base s i own)
   spot-end h = sym (spot-none k x) ∙ ap (spotFrom k x) (sym (values-none base s (i + k) (own - k) (omega arith))) ∙ r .same
+
+-- the unit of a value, byte by byte
+pub unit-is : (v : ℕ) {a b c d : ℕ} → a ≡ v / 256 / 256 / 256 % 256 → b ≡ v / 256 / 256 % 256 → c ≡ v / 256 % 256 → d ≡ v % 256
+    → a ∷ b ∷ c ∷ d ∷ 0 ∷ 0 ∷ 0 ∷ 0 ∷ 0 ∷ 0 ∷ 0 ∷ 0 ∷ 0 ∷ 0 ∷ 0 ∷ 0 ∷ [] ≡ valueBytes v
+unfolding valueBytes bytes
+unit-is v ea eb ec ed = rw (ea, eb, ec, ed)

@@ -36,3 +36,7 @@ pub record Step (call : Call) (s t : List ℕ) (r : Changed) : Type 0 where
   pub size : length t ≡ length s
   pub beyond : drop (neededBytes (roomAt s)) t ≡ drop (neededBytes (roomAt s)) s
   pub untouched : Untouched r s t
+
+-- what a function does where it is given a store
+pub record Does (call : Call) (s t : List ℕ) (r : Changed) : Type 0 where
+  pub does : SubscriptionStore s → Step call s t r

@@ -1,8 +1,9 @@
 // A value among those that a node holds.
 ghost use mathlib.Core.Path.{_≡_};
-ghost use Prim.Native.Nat.{_+_, _≤_};
+ghost use Prim.Native.Nat.{_+_, _%_, _≤_};
 ghost use lib.ListN.{length};
 ghost use Rattle.forest.specs.Places.{unitAt};
+ghost use Rattle.region.specs.Units.{valueBytes};
 ghost use Rattle.trie.specs.Values.{valuesFrom, spotFrom};
 use crate::Spot;
 
@@ -25,4 +26,37 @@ pub fn find_value(s: &[u8], base: usize, i: usize, own: usize, value: u32) -> Sp
         k += 1;
     }
     Spot::Nothing(k)
+}
+
+fn byte(n: u32) -> u8
+    ensures { λ r. ⌜ r ≡ n % 256 ⌝ }
+{
+    (n % 256) as u8
+}
+
+// The unit of a value.
+pub fn unit_of(value: u32) -> [u8; 16]
+    ensures { λ r. ⌜ r ≡ valueBytes value ⌝ }
+{
+    let high = value / 256;
+    let higher = high / 256;
+    let highest = higher / 256;
+    [
+        byte(highest),
+        byte(higher),
+        byte(high),
+        byte(value),
+        0,
+        0,
+        0,
+        0,
+        0,
+        0,
+        0,
+        0,
+        0,
+        0,
+        0,
+        0,
+    ]
 }

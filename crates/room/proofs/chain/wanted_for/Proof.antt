@@ -8,7 +8,6 @@ use Rattle.room.proofs.chain.wanted_for.Tie as tie
 use Rattle.room.proofs.chain.wanted_for.Reads as reads
 use Rattle.room.proofs.chain.wanted_for.Lts as lts
 use Rattle.level.proofs.part_at.Reads as part-at-reads
-use Rattle.room.proofs.chain.cells_of.Reads as cells-of-reads
 
 abbrev Inv-loop : tie.InvT-loop
 Inv-loop text from nodes₀ cells₀ units₀ p₀ nodes cells units p = WantedLeft text from nodes cells units p

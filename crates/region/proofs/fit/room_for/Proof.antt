@@ -1,50 +1,50 @@
-use Rattle.room.proofs.FitLaws.{nodes-full, pairs-full, cells-full, all-fit}
+use Rattle.region.proofs.FitLaws.{nodes-full, pairs-full, cells-full, all-fit}
 use borrow.Author.Needs.{needs}
-use Rattle.room.proofs.fit.room_for.Statement.{statement}
-use Rattle.room.proofs.fit.room_for.Tie as tie
-use Rattle.room.proofs.fit.room_for.Reads as reads
-use Rattle.room.proofs.fit.room_for.Lts as lts
-use Rattle.region.proofs.cells_size.Reads as cells-size-reads
-use Rattle.region.proofs.nodes_size.Reads as nodes-size-reads
-use Rattle.region.proofs.values_size.Reads as values-size-reads
+use Rattle.region.proofs.fit.room_for.Statement.{statement}
+use Rattle.region.proofs.fit.room_for.Tie as tie
+use Rattle.region.proofs.fit.room_for.Reads as reads
+use Rattle.region.proofs.fit.room_for.Lts as lts
+use Rattle.region.proofs.counts.cells_size.Reads as cells-size-reads
+use Rattle.region.proofs.counts.nodes_size.Reads as nodes-size-reads
+use Rattle.region.proofs.counts.values_size.Reads as values-size-reads
 
--- src/fit.rt:23:9
+-- src/fit.rt:27:9
 nodes-size-requires : tie.Need-nodes-size-requires
 nodes-size-requires c κs = search needs
 
--- src/fit.rt:24:9
+-- src/fit.rt:28:9
 values-size-requires : tie.Need-values-size-requires
 values-size-requires c κs = search needs
 
--- src/fit.rt:25:9
+-- src/fit.rt:29:9
 cells-size-requires : tie.Need-cells-size-requires
 cells-size-requires c κs = search needs
 
--- src/fit.rt:26:18
+-- src/fit.rt:30:23
 add-if1 : tie.Need-add-if1
 add-if1 c = search needs
 
--- src/fit.rt:27:9
+-- src/fit.rt:31:9
 returns : tie.Need-returns
 returns c = search (needs, nodes-full)
 
--- src/fit.rt:29:18
+-- src/fit.rt:33:23
 add-if2 : tie.Need-add-if2
 add-if2 c = search needs
 
--- src/fit.rt:30:9
+-- src/fit.rt:34:9
 returns-2 : tie.Need-returns-2
 returns-2 c = search (needs, pairs-full)
 
--- src/fit.rt:32:18
+-- src/fit.rt:36:23
 add-if3 : tie.Need-add-if3
 add-if3 c = search needs
 
--- src/fit.rt:33:9
+-- src/fit.rt:37:9
 returns-3 : tie.Need-returns-3
 returns-3 c = search (needs, cells-full)
 
--- src/fit.rt:16:1
+-- src/fit.rt:20:1
 returns-4 : tie.Need-returns-4
 returns-4 c = search (needs, all-fit)
 

@@ -1,15 +1,17 @@
--- The tests for room, in their order. Assumes nothing.
+-- The tests for room, in their order, and the cells of a level. Assumes nothing.
 use mathlib.Core.Path.{_≡_, refl, sym, ap, _∙_}
 use mathlib.Core.Bool.{Bool, true, false}
 use mathlib.Core.List.{List}
-use Prim.Native.Nat.{ℕ, _+_, _≤_, _<_}
+use Prim.Native.Nat.{ℕ, _+_, _/_, _≤_, _<_}
 use native.Mathlib.Omega.{arith}
 use lib.Dec.{ltb}
+use lib.ListN.{length}
 use borrow.Author.Tests.{lt-ltb, le-ltb}
 use Rattle.refusal.specs.declared.Refusal.the-variants.{NodesFull, PairsFull, TextFull}
 use Rattle.topic.specs.declared.Checked.the-variants.{Accepted, Refused}
 use Rattle.topic.specs.Answers.{checked}
-use Rattle.held.specs.Room.{Room, fullRules}
+use Rattle.level.specs.Kinds.{isOnly}
+use Rattle.held.specs.Room.{Room, levelCells, fullRules}
 
 module _ (r : Room) {a b c x y z : ℕ} (l m n : ℕ) (ea : a ≡ x) (eb : b ≡ y) (ec : c ≡ z) where
   pub nodes-full : r .nodes < a + l → Refused NodesFull ≡ checked (fullRules r false (x + l) (y + m) (z + n))
@@ -25,3 +27,15 @@ module _ (r : Room) {a b c x y z : ℕ} (l m n : ℕ) (ea : a ≡ x) (eb : b ≡
 
       pub all-fit : c + n ≤ r .cells → Accepted ≡ checked (fullRules r false (x + l) (y + m) (z + n))
       all-fit q = rw (← ea, ← eb, ← ec, le-ltb (r .nodes) (a + l) h, le-ltb (r .pairs) (b + m) k, le-ltb (r .cells) (c + n) q)
+
+-- the cells of a level
+module _ (l : List ℕ) {a : Bool} (ea : a ≡ isOnly 43 l) where
+  pub cells-plus : a ≡ true → 0 ≡ levelCells l
+  cells-plus h = rw (sym ea ∙ h)
+
+  module _ (ha : a ≡ false) {b : Bool} (eb : b ≡ isOnly 35 l) where
+    pub cells-hash : b ≡ true → 0 ≡ levelCells l
+    cells-hash h = rw (sym ea ∙ ha, sym eb ∙ h)
+
+    pub cells-other : b ≡ false → (length l + 15) / 16 ≡ levelCells l
+    cells-other h = rw (sym ea ∙ ha, sym eb ∙ h)
