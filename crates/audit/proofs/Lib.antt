@@ -1,0 +1,12 @@
+pub mod Wells
+pub mod Down
+pub mod Turns
+pub mod RowTests
+pub mod RowBytes
+pub mod Shapes
+pub mod Sound
+pub mod Headers
+pub mod Stores
+pub mod RowLaws
+pub mod Passes
+pub mod WholeLaws
