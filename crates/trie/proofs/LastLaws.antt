@@ -18,14 +18,14 @@ use Rattle.held.specs.Order.{Level, Filter, levelLt}
 use Rattle.held.specs.Ascending.{All}
 use Rattle.held.specs.Bytes.{each}
 use Rattle.held.specs.Forest.{Forest, leaf, fork, Hit, miss, hit, kid, valuesAt, Rows}
+use Rattle.held.specs.Edit.{Owns}
 use Rattle.held.proofs.Orders.{level-order, eq-higher}
 use Rattle.held.proofs.Equations.{kid-here, kid-next}
 use Rattle.region.specs.Layout.{levelUnits, rowUnits, unitsF}
 use Rattle.region.specs.Units.{valueBytes, valueOf}
 use Rattle.region.specs.Forms.{Form}
 use Rattle.region.proofs.Instances.{value-long, value-back, values}
-use Rattle.forest.specs.declared.Row.{Row}
-use Rattle.forest.specs.Places.{unitAt, lenAt, rowEnd, kidsEnd, RowAt}
+use Rattle.forest.specs.Places.{unitAt, levelUnitsAt, rowEnd, kidsEnd}
 use Rattle.forest.specs.Stands.{Stands}
 use Rattle.forest.specs.Paths.{nodesAt}
 use Rattle.forest.proofs.StandsLaws.{fork-units, ForkFits, fits-fork, stands-len, stands-own, stands-end, stands-past}
@@ -85,6 +85,13 @@ module _ {X : Type 0} where
       values-along g gs o o (fork t v k n) n (kid-next g t v k n (eq-higher level-order g t q)) ∙ last-values o r e z
   last-values o (into {g = g} {h = h} {hs = hs} {v = v} {k = k} {n = n} r) e z =
       values-on g (h ∷ hs) v o k (fork g v k n) (kid-here g g v k n (level-order .eq-refl g)) ∙ last-values v r e z
+
+-- what the node at a place holds is as what every node holds
+owns-at : {X : Type 0} (P : List X → Type 0) (w : Way X) (t : Level) (v : List X) (k n : Forest X) → Owns P (plug w (fork t v k n)) → P v
+unfolding plug
+owns-at P [] t v k n o = o .0
+owns-at P (past a b c ∷ w) t v k n o = owns-at P w t v k n (o .2)
+owns-at P (down a b c ∷ w) t v k n o = owns-at P w t v k n (o .1)
 
 -- the last of a list's first d
 module _ (l xs : List ℕ) (y d : ℕ) (e : take d l ≡ xs ++ (y ∷ [])) (few : d ≤ length l) where
@@ -151,19 +158,22 @@ module _ (base : ℕ) (s : List ℕ) (n : ℕ) (F : Forest ℕ) (st : Stands val
   pub last-nodes : nodesAt p 0 F ≡ downs 0 (r .way) ++ (ahead (r .way) ∷ [])
   last-nodes = reach-nodes 0 (st .rows) (r .is) ∙ rw zero-add
 
-  module _ (row : Row) (q : RowAt base s (ahead (r .way)) n row) where
-    pub row-first : ahead (r .way) + (row .len + 23) / 16 ≡ ahead (r .way) + levelUnits (r .level)
-    row-first = rw (q .len-is, stands-len values base s (deep 1 (r .way)) (ahead (r .way)) (ahead (r .way) + unitsF node) (r .level) (r .own) (r .kids) (r .next) here)
+  pub last-units : levelUnitsAt base s (ahead (r .way)) ≡ levelUnits (r .level)
+  last-units = rw (stands-len values base s (deep 1 (r .way)) (ahead (r .way)) (ahead (r .way) + unitsF node) (r .level) (r .own) (r .kids) (r .next) here)
 
-    pub row-end : row .end ≡ ahead (r .way) + levelUnits (r .level) + length (r .own)
-    row-end =
-        q .end-is ∙ stands-end values base s (deep 1 (r .way)) (ahead (r .way)) (ahead (r .way) + unitsF node) (r .level) (r .own) (r .kids) (r .next) here n
-        (omega (arith, inside, fork-units (r .level) (r .own) (r .kids) (r .next))) ∙ omega arith
+  pub last-end : rowEnd base s (ahead (r .way)) n ≡ ahead (r .way) + levelUnits (r .level) + length (r .own)
+  last-end =
+      stands-end values base s (deep 1 (r .way)) (ahead (r .way)) (ahead (r .way) + unitsF node) (r .level) (r .own) (r .kids) (r .next) here n
+      (omega (arith, inside, fork-units (r .level) (r .own) (r .kids) (r .next))) ∙ omega arith
 
-    pub row-past : row .past ≡ ahead (r .way) + levelUnits (r .level) + length (r .own) + unitsF (r .kids)
-    row-past =
-        q .past-is ∙ stands-past values base s (deep 1 (r .way)) (ahead (r .way)) (ahead (r .way) + unitsF node) (r .level) (r .own) (r .kids) (r .next) here n
-        (omega (arith, inside, fork-units (r .level) (r .own) (r .kids) (r .next))) ∙ omega arith
+  pub last-past : kidsEnd base s (ahead (r .way)) n ≡ ahead (r .way) + levelUnits (r .level) + length (r .own) + unitsF (r .kids)
+  last-past =
+      stands-past values base s (deep 1 (r .way)) (ahead (r .way)) (ahead (r .way) + unitsF node) (r .level) (r .own) (r .kids) (r .next) here n
+      (omega (arith, inside, fork-units (r .level) (r .own) (r .kids) (r .next))) ∙ omega arith
+
+  -- what it holds is as what every node holds
+  pub last-owns : (P : List ℕ → Type 0) → Owns P F → P (r .own)
+  last-owns P o = owns-at P (r .way) (r .level) (r .own) (r .kids) (r .next) (rw placed o)
 
   pub last-read : valuesFrom base s (ahead (r .way) + levelUnits (r .level)) (length (r .own)) ≡ r .own
   last-read =

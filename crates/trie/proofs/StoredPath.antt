@@ -25,17 +25,18 @@ use Rattle.held.specs.Room.{Room, levelCells, nodeCount, cellCount, fullRules, 
 use Rattle.held.specs.Subscriptions.{isHeld, insertHeld}
 use Rattle.held.specs.Forest.{Forest, hit, held, valuesAt}
 use Rattle.held.specs.History.{accepted}
-use Rattle.held.specs.Edit.{sizeF, cellsF, weigh, missing, HashLast}
+use Rattle.held.specs.Edit.{insertF, sizeF, cellsF, weigh, missing, HashLast}
 use Rattle.held.proofs.Texts.{filter-hash}
 use Rattle.held.proofs.Counts.{node-count, cell-count}
 use Rattle.held.proofs.Refusals.{rules-insert}
+use Rattle.held.proofs.RoomLaws.{Within, room-within}
+use Rattle.held.proofs.ByTexts.{insert-text}
+use Rattle.region.proofs.Stores.{units-fit}
 use Rattle.held.proofs.Forests.{held-at}
 use Rattle.region.specs.Layout.{unitRoom, unitsF}
 use Rattle.region.specs.Units.{valueBytes, valueOf}
 use Rattle.region.specs.Store.{roomAt, forestAt, SubscriptionStore}
-use Rattle.region.specs.declared.Capacities.{Capacities}
-use Rattle.region.specs.Opening.{roomOf}
-use Rattle.region.specs.Shapes.{CapacitiesOf, UnitsOf}
+use Rattle.region.specs.Shapes.{UnitsOf}
 use Rattle.region.proofs.CountLaws.{nodes-kept, pairs-kept, cells-kept}
 use Rattle.region.proofs.Instances.{values}
 use Rattle.forest.specs.Places.{unitAt}
@@ -48,6 +49,7 @@ use Rattle.change.specs.Holds.{Holds}
 use Rattle.change.proofs.ReachLaws.{Reached, reach, reach-missing}
 use Rattle.change.proofs.HoldsLaws.{units-within}
 use Rattle.change.proofs.StoreLaws.{used-is, store-holds}
+use Rattle.trie.specs.Slots.{fitting}
 use Rattle.trie.specs.Calls.{heldIn}
 use Rattle.trie.proofs.LastLaws.{Last, reach-last}
 
@@ -105,11 +107,10 @@ module _ (s : List ℕ) {base n room : ℕ} (units : UnitsOf s base n room) (f :
   depth-first rules = rw (le-ltb 128 (length (split f)) few)
 
   -- the rules for room, by what the header says and the levels that are missing
-  pub rooms-are : (x : ℕ) (c : Capacities) → CapacitiesOf s c → member eqb x (valuesAt (split f) (hit [] F)) ≡ false
+  pub rooms-are : (x : ℕ) → member eqb x (valuesAt (split f) (hit [] F)) ≡ false
       → checked (depthRule f ∷ roomRules (roomAt s) (isHeld (split f, x) (heldIn s)) (insertHeld (split f, x) (heldIn s)))
-      ≡ checked (fullRules (roomOf c) false (read 2 10 s + length (missing (split f) F)) (read 2 12 s + 1) (read 2 14 s + weigh levelCells (missing (split f) F)))
-  rooms-are x c cs e =
-      let r : roomOf c ≡ roomAt s = cs .room-is (omega (arith, st .written .long)) in
+      ≡ fitting s (length (missing (split f) F)) (weigh levelCells (missing (split f) F))
+  rooms-are x e =
       let a : read 2 10 s + length (missing (split f) F) ≡ sizeF F + weigh (λ t. 1) (missing (split f) F) =
       omega (arith, nodes-kept F s (st .written), node-count F (st .well .rows) (st .well .full), weigh-one (missing (split f) F)) in
       let b : read 2 12 s + 1 ≡ suc (length (held F)) = omega (arith, pairs-kept F s (st .written)) in
@@ -119,4 +120,18 @@ module _ (s : List ℕ) {base n room : ℕ} (units : UnitsOf s base n room) (f :
       ≡ fullRules (roomAt s) false (read 2 10 s + length (missing (split f) F)) (read 2 12 s + 1) (read 2 14 s + weigh levelCells (missing (split f) F)) =
       full-rules x ∙ rw (e, a, b, d) in
       depth-first (roomRules (roomAt s) (isHeld (split f, x) (heldIn s)) (insertHeld (split f, x) (heldIn s))) ∙ ap checked rules
-      ∙ ap (λ (q : Room). checked (fullRules q false (read 2 10 s + length (missing (split f) F)) (read 2 12 s + 1) (read 2 14 s + weigh levelCells (missing (split f) F)))) (sym r)
+
+  -- what is then held fits, and so do its units
+  pub inserted-within : (x : ℕ) → member eqb x (valuesAt (split f) (hit [] F)) ≡ false → fitting s (length (missing (split f) F)) (weigh levelCells (missing (split f) F)) ≡ Accepted
+      → Within (roomAt s) (held (insertF (split f) x F))
+  inserted-within x e q =
+      let i = insert-text f (ap accepted fine) x F (st .well) in
+      let n : isHeld (split f, x) (heldIn s) ≡ false = held-is x ∙ e in
+      rw (i .0) (room-within f (roomAt s) (insertHeld (split f, x) (heldIn s)) (rw n at (ap accepted (rooms-are x e ∙ q))))
+
+  pub inserted-units : (x : ℕ) → member eqb x (valuesAt (split f) (hit [] F)) ≡ false → fitting s (length (missing (split f) F)) (weigh levelCells (missing (split f) F)) ≡ Accepted
+      → unitsF (insertF (split f) x F) ≤ room
+  inserted-units x e q =
+      let i = insert-text f (ap accepted fine) x F (st .well) in
+      let w = inserted-within x e q in
+      omega (arith, units-fit (insertF (split f) x F) (i .1 .rows) (i .1 .full), w .nodes, w .pairs, w .cells, units .room-is)

@@ -1,4 +1,5 @@
 // The store of subscriptions: filters with their values.
+mod insert;
 mod slots;
 mod values;
 

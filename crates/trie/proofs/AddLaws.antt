@@ -1,0 +1,89 @@
+-- The tests before anything is added. Assumes nothing.
+use mathlib.Core.Path.{_≡_, refl, sym, ap, _∙_}
+use mathlib.Core.Bool.{false}
+use mathlib.Core.List.{List, [], _∷_}
+use Prim.Native.Nat.{ℕ, _+_, _-_, _*_, _≤_, _<_}
+use native.Mathlib.Omega.{arith}
+use lib.ListN.{length, take}
+use Rattle.refusal.specs.declared.Refusal.{Refusal}
+use Rattle.refusal.specs.declared.Refusal.the-variants.{NotAStore}
+use Rattle.lent.specs.Total.{read}
+use Rattle.topic.specs.Answers.{checked}
+use Rattle.topic.specs.declared.Checked.{Checked}
+use Rattle.topic.specs.declared.Checked.the-variants.{Accepted, Refused as NotAccepted}
+use Rattle.held.specs.Room.{Room, fullRules}
+use Rattle.region.specs.declared.Capacities.{Capacities}
+use Rattle.region.specs.Opening.{roomOf}
+use Rattle.region.specs.Shapes.{CapacitiesOf, UnitsOf}
+use Rattle.level.specs.Levels.{split}
+use Rattle.level.specs.Places.{levelsAt}
+use Rattle.held.specs.Order.{Filter}
+use Rattle.held.specs.Ascending.{All}
+use Rattle.seek.specs.declared.Path.{Path}
+use Rattle.seek.specs.PathFound.{PathFound}
+use Rattle.seek.proofs.PathLaws.{nodes-all}
+use Rattle.region.specs.Units.{valueBytes}
+use Rattle.room.specs.declared.Load.{Load}
+use Rattle.room.specs.Runs.{WantedFor}
+use Rattle.room.specs.Changes.{Under, none-under, more-under, madeUnit, madeChain}
+use Rattle.trie.specs.declared.Changed.the-variants.{Done, Refused}
+use Rattle.trie.specs.Slots.{fitting, Added, no-fit, no-room, added, ChainAdded}
+
+module _ (s : List ℕ) {base n room : ℕ} (units : UnitsOf s base n room) {c : Capacities} (cs : CapacitiesOf s c) (nodes cells more : ℕ) {fit : Checked}
+    (e : fit ≡ checked (fullRules (roomOf c) false (read 2 10 s + nodes) (read 2 12 s + 1) (read 2 14 s + cells))) (made : List ℕ) where
+  fit-is : fit ≡ fitting s nodes cells
+  fit-is = e ∙ ap (λ (r : Room). checked (fullRules r false (read 2 10 s + nodes) (read 2 12 s + 1) (read 2 14 s + cells))) (cs .room-is (omega (arith, units .long)))
+
+  pub add-refused : {r : Refusal} → fit ≡ NotAccepted r → Added s n room nodes cells more made s (Refused r)
+  add-refused q = no-fit (sym fit-is ∙ q)
+
+  pub add-short : fit ≡ Accepted → room < n + more → Added s n room nodes cells more made s (Refused NotAStore)
+  add-short q h = no-room (sym fit-is ∙ q) h
+
+  add-made : fit ≡ Accepted → n + more ≤ room → {t : List ℕ} → t ≡ made → Added s n room nodes cells more made t (Done 1)
+  add-made q h z = rw z (added (sym fit-is ∙ q) h)
+
+-- with the unit of the value
+module _ (s : List ℕ) {base n room : ℕ} (units : UnitsOf s base n room) {c : Capacities} (cs : CapacitiesOf s c) {fit : Checked} (x : ℕ) {unit : List ℕ} (eu : unit ≡ valueBytes x) where
+  pub add-unit : (ns : List ℕ) (node at : ℕ) → fit ≡ checked (fullRules (roomOf c) false (read 2 10 s + 0) (read 2 12 s + 1) (read 2 14 s + 0)) → fit ≡ Accepted → n + 1 ≤ room
+      → {t : List ℕ} → t ≡ madeUnit base n ns node at unit s → Added s n room 0 0 1 (madeUnit base n ns node at (valueBytes x) s) t (Done 1)
+  add-unit ns node at e q h z = add-made s units cs 0 0 1 e (madeUnit base n ns node at (valueBytes x) s) q h (z ∙ ap (λ (y : List ℕ). madeUnit base n ns node at y s) eu)
+
+  pub add-chain : (ns : List ℕ) (place d : ℕ) (gs : Filter) (load : Load) → fit ≡ checked (fullRules (roomOf c) false (read 2 10 s + load .nodes) (read 2 12 s + 1) (read 2 14 s + load .cells))
+      → fit ≡ Accepted → n + load .units ≤ room → {t : List ℕ} → t ≡ madeChain base n ns place d unit gs load s
+      → Added s n room (load .nodes) (load .cells) (load .units) (madeChain base n ns place d (valueBytes x) gs load s) t (Done 1)
+  add-chain ns place d gs load e q h z =
+      add-made s units cs (load .nodes) (load .cells) (load .units) e (madeChain base n ns place d (valueBytes x) gs load s) q h (z ∙ ap (λ (y : List ℕ). madeChain base n ns place d y gs load s) eu)
+
+-- new nodes for the levels that are missing from a path
+under-all : (n : ℕ) (l : List ℕ) → All (λ (i : ℕ). i < n) l → Under n l
+under-all n [] a = none-under
+under-all n (i ∷ l) a = more-under (a .0) (under-all n l (a .1))
+
+module _ {s : List ℕ} {base n room : ℕ} (units : UnitsOf s base n room) {f : List ℕ} {p : Path} (pf : PathFound base s n f p) where
+  pub nodes-under : length (p .nodes) ≡ 128 → Under n (take (p .depth) (p .nodes))
+  nodes-under h = under-all n (take (p .depth) (p .nodes)) (nodes-all base s n f p pf h)
+
+  pub chain-deep : length (split f) ≤ 128 → p .depth + 1 + length (levelsAt f (p .from)) ≤ 256
+  chain-deep h = omega (arith, pf .count)
+
+  module _ {load : Load} (w : WantedFor (levelsAt f (p .from)) load) {c : Capacities} (cs : CapacitiesOf s c) {fit : Checked}
+      (e : fit ≡ checked (fullRules (roomOf c) false (read 2 10 s + load .nodes) (read 2 12 s + 1) (read 2 14 s + load .cells))) (x : ℕ) where
+    abbrev made : List ℕ
+    made = madeChain base n (take (p .depth) (p .nodes)) (p .place) (p .depth + 1) (valueBytes x) (levelsAt f (p .from)) load s
+
+    pub chain-refused : {r : Refusal} → fit ≡ NotAccepted r → ChainAdded s base n room p f x s (Refused r)
+    chain-refused q = record { load = load; wanted = w; adds = add-refused s units cs (load .nodes) (load .cells) (load .units) e made q }
+
+    module _ (q : fit ≡ Accepted) where
+      pub chain-short : room - n < load .units → ChainAdded s base n room p f x s (Refused NotAStore)
+      chain-short h = record { load = load; wanted = w; adds = add-short s units cs (load .nodes) (load .cells) (load .units) e made q (omega (arith, units .within)) }
+
+      pub chain-added : load .units ≤ room - n → {unit : List ℕ} → unit ≡ valueBytes x → {t : List ℕ}
+          → t ≡ madeChain base n (take (p .depth) (p .nodes)) (p .place) (p .depth + 1) unit (levelsAt f (p .from)) load s → ChainAdded s base n room p f x t (Done 1)
+      chain-added h eu z =
+          record {
+            load = load;
+            wanted = w;
+            adds = add-chain s units cs x eu (take (p .depth) (p .nodes)) (p .place) (p .depth + 1) (levelsAt f (p .from)) load e q (omega (arith, units .within)) z;
+          }
