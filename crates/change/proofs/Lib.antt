@@ -11,3 +11,4 @@ pub mod EditLaws
 pub mod CutLaws
 pub mod FoundLaws
 pub mod StoreLaws
+pub mod PathEdits

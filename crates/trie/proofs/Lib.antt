@@ -5,3 +5,4 @@ pub mod AddLaws
 pub mod StepLaws
 pub mod LastLaws
 pub mod StoredPath
+pub mod InsertLaws
