@@ -2,6 +2,7 @@
 use mathlib.Core.Path.{_≡_, refl, sym, ap, subst, _∙_}
 use mathlib.Core.List.{List, [], _∷_, _++_}
 use Prim.Native.Nat.{ℕ, _+_}
+use native.Mathlib.Omega.{arith}
 use lib.ListN.{length}
 use Rattle.held.specs.Order.{Level, Filter}
 use Rattle.held.specs.Forest.{Forest, leaf, fork, held, Rows}
@@ -13,13 +14,16 @@ use Rattle.region.specs.Forms.{Form}
 use Rattle.region.specs.Store.{roomAt}
 use Rattle.forest.specs.Paths.{nodesAt, spotAt}
 use Rattle.room.specs.declared.Load.{Load}
-use Rattle.room.specs.Runs.{WantedFor}
+use Rattle.room.specs.Runs.{runUnits, WantedFor}
 use Rattle.room.specs.Changes.{madeChain, madeUnit, takenUnit, takenChain}
-use Rattle.change.specs.Ways.{Way, plug, ahead, downs}
-use Rattle.change.specs.Reach.{Reach}
+use Rattle.change.specs.Ways.{Way, plug, wide, ahead, downs}
+use Rattle.change.specs.Reach.{Reach, growHere}
 use Rattle.change.specs.Holds.{Holds}
 use Rattle.change.specs.Cut.{CutAt}
-use Rattle.change.proofs.ReachLaws.{Reached, reach, reach-plug, reach-missing}
+use Rattle.change.proofs.ReachLaws.{reach-plug, reach-grow}
+use Rattle.change.proofs.WayLaws.{units-plug, wide-add}
+use Rattle.change.proofs.ChainLaws.{before-units}
+use Rattle.forest.proofs.StandsLaws.{fork-units}
 use Rattle.change.proofs.EditLaws.{Becomes, Short, chain-becomes, unit-becomes, less-becomes, taken-becomes}
 use Rattle.change.proofs.CutLaws.{cut-is, cut-plug, cut-changes}
 
@@ -73,3 +77,19 @@ module _ {X : Type 0} (u : Form X) (kind : ℕ) (s : List ℕ) (e : List X → L
       let c : cutF e p F ≡ plug w n = cut-is e r in
       let b = taken-becomes u kind s w t v k n (rw (cut-plug e r) h) load (cut-changes e r load wanted) (rw c at (rows-cut e p F (h .rows))) (rw c at full) (rw c at within) in
       rw (c, ← ap unitsF (cut-plug e r)) b
+
+-- the units that a forest has then
+module _ {X : Type 0} (e : List X → List X) where
+  pub unit-units : {p : Filter} {F : Forest X} {w : Way X} {l : Level} {own : List X} {k n : Forest X} → Reach p F w (fork l own k n) [] → length (e own) ≡ length own + 1
+      → unitsF (growF e p F) ≡ unitsF F + 1
+  unfolding growHere
+  unit-units {w = w} {l = l} {own = own} {k = k} {n = n} r h =
+      let a : unitsF (fork l (e own) k n) ≡ unitsF (fork l own k n) + 1 = omega (arith, fork-units l (e own) k n, fork-units l own k n, h) in
+      ap unitsF (reach-grow e r) ∙ units-plug w (fork l (e own) k n) ∙ ap (wide w) a ∙ wide-add w (unitsF (fork l own k n)) 1
+      ∙ ap (λ (c : ℕ). c + 1) (sym (units-plug w (fork l own k n)) ∙ ap unitsF (reach-plug r))
+
+  pub chain-units : {p : Filter} {F G : Forest X} {w : Way X} {g : Level} {gs : Filter} (y : X) → e [] ≡ y ∷ [] → Reach p F w G (g ∷ gs) → unitsF (growF e p F) ≡ unitsF F + runUnits (g ∷ gs)
+  chain-units {G = G} {w = w} {g = g} {gs = gs} y one r =
+      let a : unitsF (growHere e (g ∷ gs) G) ≡ unitsF G + runUnits (g ∷ gs) = before-units e y one g gs G ∙ omega arith in
+      ap unitsF (reach-grow e r) ∙ units-plug w (growHere e (g ∷ gs) G) ∙ ap (wide w) a ∙ wide-add w (unitsF G) (runUnits (g ∷ gs))
+      ∙ ap (λ (c : ℕ). c + runUnits (g ∷ gs)) (sym (units-plug w G) ∙ ap unitsF (reach-plug r))
