@@ -6,3 +6,4 @@ pub mod StepLaws
 pub mod LastLaws
 pub mod StoredPath
 pub mod InsertLaws
+pub mod InsertChain
