@@ -2,9 +2,9 @@
 use mathlib.Core.Path.{_≡_, refl, sym, ap, _∙_}
 use mathlib.Core.Bool.{false}
 use mathlib.Core.List.{List, [], _∷_}
-use Prim.Native.Nat.{ℕ, _+_, _-_, _*_, _≤_, _<_}
+use Prim.Native.Nat.{ℕ, zero, suc, _+_, _-_, _*_, _≤_, _<_}
 use native.Mathlib.Omega.{arith}
-use lib.ListN.{length, take}
+use lib.ListN.{length, take, getD}
 use Rattle.refusal.specs.declared.Refusal.{Refusal}
 use Rattle.refusal.specs.declared.Refusal.the-variants.{NotAStore}
 use Rattle.lent.specs.Total.{read}
@@ -17,6 +17,7 @@ use Rattle.region.specs.Opening.{roomOf}
 use Rattle.region.specs.Shapes.{CapacitiesOf, UnitsOf}
 use Rattle.level.specs.Levels.{split}
 use Rattle.level.specs.Places.{levelsAt}
+use Rattle.level.proofs.Split.{split-cons, levels-none}
 use Rattle.held.specs.Order.{Filter}
 use Rattle.held.specs.Ascending.{All}
 use Rattle.seek.specs.declared.Path.{Path}
@@ -87,3 +88,20 @@ module _ {s : List ℕ} {base n room : ℕ} (units : UnitsOf s base n room) {f :
             wanted = w;
             adds = add-chain s units cs x eu (take (p .depth) (p .nodes)) (p .place) (p .depth + 1) (levelsAt f (p .from)) load e q (omega (arith, units .within)) z;
           }
+
+under-take : (n : ℕ) (l : List ℕ) (i k : ℕ) → i ≤ k → Under n (take k l) → Under n (take i l)
+under-take n l zero k h u = none-under
+under-take n [] (suc i) k h u = none-under
+under-take n (x ∷ l) (suc i) zero h u = absurd (omega arith)
+under-take n (x ∷ l) (suc i) (suc k) h (more-under a u) = more-under a (under-take n l i k (omega arith) u)
+
+-- the last node of a path that is there
+module _ {s : List ℕ} {base n room : ℕ} (units : UnitsOf s base n room) {f : List ℕ} {p : Path} (pf : PathFound base s n f p) (q : length f < p .from) where
+  pub some-depth : 1 ≤ p .depth
+  some-depth = omega (arith, pf .count, ap length (levels-none f (p .from) q), ap length (split-cons f))
+
+  pub last-below : getD (p .nodes) (p .depth - 1) 0 < n
+  last-below = pf .nodes-in (p .depth - 1) (omega (arith, some-depth))
+
+  pub last-under : length (p .nodes) ≡ 128 → Under n (take (p .depth - 1) (p .nodes))
+  last-under h = under-take n (p .nodes) (p .depth - 1) (p .depth) (omega arith) (nodes-under units pf h)

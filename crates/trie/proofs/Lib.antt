@@ -7,3 +7,4 @@ pub mod LastLaws
 pub mod StoredPath
 pub mod InsertLaws
 pub mod InsertChain
+pub mod KnownLaws

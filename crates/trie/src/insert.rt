@@ -20,6 +20,7 @@ use refusal::Refusal;
 use region::Cells;
 use region::Nodes;
 use region::Pairs;
+use region::Shape;
 use seek::Path;
 use topic::Checked;
 
@@ -94,4 +95,49 @@ fn add_chain(
         load,
     );
     Changed::Done(1)
+}
+
+// A value for a filter whose nodes are all there.
+fn insert_value(s: &mut [u8], base: usize, n: usize, room: usize, p: Path, filter: &[u8], value: u32) -> Changed
+    requires { ⌜ UnitsOf (now s) base n room × (checked (filterRules (now filter)) ≡ Accepted) × (length (split (now filter)) ≤ 128) × PathFound base (now s) n (now filter) p × (length (now filter) < p .from) ⌝ }
+    ensures { λ r. ⌜ Does (insert (now (filter .entry)) value) (now (s .entry)) (now (s .exit)) r ⌝ }
+{
+    let nodes = p.nodes;
+    let last = p.depth - 1;
+    let node = nodes[last];
+    let slot = slots::slot_of(s, base, n, node, value);
+    if !slot.sound {
+        return Changed::Refused(Refusal::NotAStore);
+    }
+    if slot.held {
+        return Changed::Done(0);
+    }
+    add_value(s, base, n, room, nodes, last, node, slot.at, value)
+}
+
+// A value for a filter of at most 128 levels.
+fn insert_in(s: &mut [u8], base: usize, n: usize, room: usize, filter: &[u8], value: u32) -> Changed
+    requires { ⌜ UnitsOf (now s) base n room × (checked (filterRules (now filter)) ≡ Accepted) × (length (split (now filter)) ≤ 128) ⌝ }
+    ensures { λ r. ⌜ Does (insert (now (filter .entry)) value) (now (s .entry)) (now (s .exit)) r ⌝ }
+{
+    let p = seek::find_path(s, base, n, filter);
+    if filter.len() < p.from {
+        return insert_value(s, base, n, room, p, filter, value);
+    }
+    add_chain(s, base, n, room, p, filter, value)
+}
+
+// A filter that was accepted, with a value, into a region that was tested.
+pub fn insert_known(s: &mut [u8], filter: &[u8], value: u32) -> Changed
+    requires { ⌜ checked (filterRules (now filter)) ≡ Accepted ⌝ }
+    ensures { λ r. ⌜ Does (insert (now (filter .entry)) value) (now (s .entry)) (now (s .exit)) r ⌝ }
+{
+    if 128 < level::level_count(filter) {
+        return Changed::Refused(Refusal::TooDeep);
+    }
+    let shape = region::shape_of(s);
+    let Shape::Units { base, used, room } = shape else {
+        return Changed::Refused(Refusal::NotAStore);
+    };
+    insert_in(s, base, used, room, filter, value)
 }

@@ -1,0 +1,59 @@
+-- Before a store is changed: a text that is too deep, a header that is no store's, and how long an accepted text is. Assumes nothing.
+use mathlib.Core.Path.{_≡_, refl, sym, ap, subst, _∙_}
+use mathlib.Core.List.{List, [], _∷_}
+use Prim.Native.Nat.{ℕ, _+_, _*_, _≤_, _<_}
+use native.Mathlib.Omega.{arith}
+use lib.Dec.{ltb}
+use lib.ListN.{length}
+use borrow.Author.Tests.{lt-ltb}
+use Rattle.refusal.specs.declared.Refusal.the-variants.{NotAStore, TooDeep}
+use Rattle.lent.specs.Numbers.{be}
+use Rattle.lent.specs.Parts.{part}
+use Rattle.level.specs.Levels.{split, join}
+use Rattle.level.proofs.Join.{join-split}
+use Rattle.topic.specs.Rules.{Rule, filterRules}
+use Rattle.topic.specs.Answers.{checked}
+use Rattle.topic.specs.declared.Checked.the-variants.{Accepted, Refused as NotAccepted}
+use Rattle.held.specs.Room.{depthRule, roomRules}
+use Rattle.held.specs.History.{accepted}
+use Rattle.held.specs.Subscriptions.{isHeld, insertHeld, Call, insert}
+use Rattle.held.proofs.Texts.{filter-written}
+use Rattle.region.specs.Layout.{unitRoom, unitsF}
+use Rattle.region.specs.Units.{valueOf}
+use Rattle.region.specs.Store.{roomAt, forestAt, SubscriptionStore}
+use Rattle.region.specs.declared.Shape.{Shape}
+use Rattle.region.specs.declared.Shape.the-variants.{Units, Not}
+use Rattle.region.specs.Shapes.{NoUnits, UnitsOf, ShapeOf}
+use Rattle.region.proofs.Instances.{values}
+use Rattle.change.proofs.HoldsLaws.{units-within}
+use Rattle.change.proofs.StoreLaws.{used-is, store-holds}
+use Rattle.trie.specs.declared.Changed.the-variants.{Refused}
+use Rattle.trie.specs.Calls.{heldIn, Does}
+use Rattle.trie.proofs.StepLaws.{insert-refused}
+
+pub accepted-size : (f : List ℕ) → checked (filterRules f) ≡ Accepted → length f ≤ 65535
+accepted-size f e = rw (join-split f) at (filter-written f (ap accepted e) .short)
+
+deep-rule : (f : List ℕ) (rules : List Rule) → 128 < length (split f) → checked (depthRule f ∷ rules) ≡ NotAccepted TooDeep
+unfolding depthRule
+deep-rule f rules h = rw (lt-ltb 128 (length (split f)) h)
+
+pub too-deep : (s f : List ℕ) (x : ℕ) → checked (filterRules f) ≡ Accepted → {k : ℕ} → k ≡ length (split f) → 128 < k → Does (insert f x) s s (Refused TooDeep)
+too-deep s f x fine e h =
+    record {
+      does = λ (st : SubscriptionStore s).
+      insert-refused s st f x fine TooDeep (deep-rule f (roomRules (roomAt s) (isHeld (split f, x) (heldIn s)) (insertHeld (split f, x) (heldIn s))) (omega (arith, e)));
+    }
+
+-- the header, told as a shape
+pub units-told : {s : List ℕ} {r : Shape} {base n room : ℕ} → ShapeOf s r → r ≡ Units base n room → UnitsOf s base n room
+units-told {s} h e = subst (ShapeOf s) e h
+
+pub no-units : (call : Call) (s : List ℕ) {r : Shape} → ShapeOf s r → r ≡ Not → Does call s s (Refused NotAStore)
+no-units call s h e =
+    let q : NoUnits s = subst (ShapeOf s) e h in
+    record {
+      does = λ (st : SubscriptionStore s).
+      absurd (q .none (st .written .long)
+      (omega (arith, used-is values 1 s (forestAt valueOf s) (st .written) (st .well .rows) (st .well .full), units-within values 1 s (forestAt valueOf s) (store-holds s st))));
+    }

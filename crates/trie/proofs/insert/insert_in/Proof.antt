@@ -1,0 +1,50 @@
+use Rattle.trie.proofs.InsertChain.{chain-does}
+use Rattle.trie.proofs.KnownLaws.{accepted-size}
+use borrow.Author.Needs.{needs}
+use Rattle.trie.proofs.insert.insert_in.Statement.{statement}
+use Rattle.trie.proofs.insert.insert_in.Tie as tie
+use Rattle.trie.proofs.insert.insert_in.Reads as reads
+use Rattle.trie.proofs.insert.insert_in.Lts as lts
+use Rattle.seek.proofs.find_path.Reads as find-path-reads
+use Rattle.trie.proofs.insert.add_chain.Reads as add-chain-reads
+use Rattle.trie.proofs.insert.insert_value.Reads as insert-value-reads
+
+-- src/insert.rt:123:9
+find-path-requires : tie.Need-find-path-requires
+find-path-requires c κs = search needs
+
+-- src/insert.rt:125:9
+insert-value-requires : tie.Need-insert-value-requires
+insert-value-requires c κs = search needs
+
+-- src/insert.rt:125:9
+same-length : tie.Need-same-length
+same-length c = search needs
+
+-- src/insert.rt:125:9
+returns : tie.Need-returns
+returns c = search needs
+
+-- src/insert.rt:127:5
+add-chain-requires : tie.Need-add-chain-requires
+add-chain-requires c κs = search (needs, accepted-size)
+
+-- src/insert.rt:119:1
+same-length-2 : tie.Need-same-length-2
+same-length-2 c = search needs
+
+-- src/insert.rt:119:1
+returns-2 : tie.Need-returns-2
+returns-2 c = search (needs, chain-does, accepted-size)
+
+pub insert-in-spec : {M : Type 1} → statement M
+insert-in-spec =
+    tie.close
+    (tie.spec
+    find-path-requires
+    insert-value-requires
+    same-length
+    returns
+    add-chain-requires
+    same-length-2
+    returns-2)
