@@ -153,9 +153,9 @@ module _ (s : List ℕ) {base n room : ℕ} (units : UnitsOf s base n room) (f :
     value-there h =
         record {
           does = λ (st : SubscriptionStore s).
-          let g : spotFrom 0 x (at-last st .own) .held ≡ true = sym (ap (λ (a : Slot). a .held) (e ∙ slot-stored st x at)) ∙ h in
-          let r : Among x (at-last st .own) (spotFrom 0 x (at-last st .own) .at) = spot-among x (at-last st .own) (own-asc st) g in
-          insert-there s st f x fine few (held-is s units f fine few pf st x ∙ ap (member eqb x) (own-is st) ∙ r .present);
+              let g : spotFrom 0 x (at-last st .own) .held ≡ true = sym (ap (λ (a : Slot). a .held) (e ∙ slot-stored st x at)) ∙ h in
+              let r : Among x (at-last st .own) (spotFrom 0 x (at-last st .own) .at) = spot-among x (at-last st .own) (own-asc st) g in
+              insert-there s st f x fine few (held-is s units f fine few pf st x ∙ ap (member eqb x) (own-is st) ∙ r .present);
         }
 
     pub value-added : slot .held ≡ false → x < 256 ^ 4 → {t : List ℕ} {r : Changed}
@@ -163,8 +163,8 @@ module _ (s : List ℕ) {base n room : ℕ} (units : UnitsOf s base n room) (f :
     value-added h small d =
         record {
           does = λ (st : SubscriptionStore s).
-          let g : slot ≡ slotAt (ahead (at-last st .way) + levelUnits (at-last st .level)) (spotFrom 0 x (at-last st .own)) = e ∙ slot-stored st x at in
-          let k : spotFrom 0 x (at-last st .own) .held ≡ false = sym (ap (λ (a : Slot). a .held) g) ∙ h in
-          let m : slot .at ≡ ahead (at-last st .way) + levelUnits (at-last st .level) + spotFrom 0 x (at-last st .own) .at = ap (λ (a : Slot). a .at) g in
-          new-value st x small k (rw (at ∙ node-is st, m) at d);
+              let g : slot ≡ slotAt (ahead (at-last st .way) + levelUnits (at-last st .level)) (spotFrom 0 x (at-last st .own)) = e ∙ slot-stored st x at in
+              let k : spotFrom 0 x (at-last st .own) .held ≡ false = sym (ap (λ (a : Slot). a .held) g) ∙ h in
+              let m : slot .at ≡ ahead (at-last st .way) + levelUnits (at-last st .level) + spotFrom 0 x (at-last st .own) .at = ap (λ (a : Slot). a .at) g in
+              new-value st x small k (rw (at ∙ node-is st, m) at d);
         }

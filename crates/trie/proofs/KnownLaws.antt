@@ -42,7 +42,7 @@ pub too-deep : (s f : List ℕ) (x : ℕ) → checked (filterRules f) ≡ Accept
 too-deep s f x fine e h =
     record {
       does = λ (st : SubscriptionStore s).
-      insert-refused s st f x fine TooDeep (deep-rule f (roomRules (roomAt s) (isHeld (split f, x) (heldIn s)) (insertHeld (split f, x) (heldIn s))) (omega (arith, e)));
+          insert-refused s st f x fine TooDeep (deep-rule f (roomRules (roomAt s) (isHeld (split f, x) (heldIn s)) (insertHeld (split f, x) (heldIn s))) (omega (arith, e)));
     }
 
 -- the header, told as a shape
@@ -54,6 +54,6 @@ no-units call s h e =
     let q : NoUnits s = subst (ShapeOf s) e h in
     record {
       does = λ (st : SubscriptionStore s).
-      absurd (q .none (st .written .long)
-      (omega (arith, used-is values 1 s (forestAt valueOf s) (st .written) (st .well .rows) (st .well .full), units-within values 1 s (forestAt valueOf s) (store-holds s st))));
+          absurd (q .none (st .written .long)
+          (omega (arith, used-is values 1 s (forestAt valueOf s) (st .written) (st .well .rows) (st .well .full), units-within values 1 s (forestAt valueOf s) (store-holds s st))));
     }

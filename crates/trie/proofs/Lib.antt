@@ -8,3 +8,4 @@ pub mod StoredPath
 pub mod InsertLaws
 pub mod InsertChain
 pub mod KnownLaws
+pub mod CallLaws

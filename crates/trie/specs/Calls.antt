@@ -5,6 +5,7 @@ use mathlib.Core.Path.{_≡_}
 use Prim.Native.Nat.{ℕ}
 use mathlib.Core.List.{List}
 use lib.ListN.{length, drop}
+use Rattle.refusal.specs.declared.Refusal.the-variants.{NotAStore}
 use Rattle.held.specs.History.{Outcome, answered, refused, outcome, result}
 use Rattle.held.specs.Subscriptions.{Pair, Call, subscriptions}
 use Rattle.held.specs.Forest.{held}
@@ -37,6 +38,11 @@ pub record Step (call : Call) (s t : List ℕ) (r : Changed) : Type 0 where
   pub beyond : drop (neededBytes (roomAt s)) t ≡ drop (neededBytes (roomAt s)) s
   pub untouched : Untouched r s t
 
--- what a function does where it is given a store
+-- a call on a region: on a store it is a step, and any other region is refused by 11 and left as it was
+pub record Calls (call : Call) (s t : List ℕ) (r : Changed) : Type 0 where
+  pub on-store : SubscriptionStore s → Step call s t r
+  pub on-other : (SubscriptionStore s → ⊥) → (r ≡ Refused NotAStore) × (t ≡ s)
+
+-- FOR THE CODE. What a function does where it is given a store
 pub record Does (call : Call) (s t : List ℕ) (r : Changed) : Type 0 where
   pub does : SubscriptionStore s → Step call s t r

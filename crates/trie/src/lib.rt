@@ -1,8 +1,10 @@
 // The store of subscriptions: filters with their values.
-mod insert;
+mod calls;
+mod inserting;
 mod slots;
 mod values;
 
+pub use calls::insert;
 use refusal::Refusal;
 
 // What a change answers: a number, or the refusal.

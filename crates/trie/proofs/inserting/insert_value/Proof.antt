@@ -1,11 +1,11 @@
 use Rattle.trie.proofs.InsertLaws.{value-broken, value-there, value-added}
 use Rattle.trie.proofs.AddLaws.{some-depth, last-below, last-under}
 use borrow.Author.Needs.{needs}
-use Rattle.trie.proofs.insert.insert_value.Statement.{statement}
-use Rattle.trie.proofs.insert.insert_value.Tie as tie
-use Rattle.trie.proofs.insert.insert_value.Reads as reads
-use Rattle.trie.proofs.insert.insert_value.Lts as lts
-use Rattle.trie.proofs.insert.add_value.Reads as add-value-reads
+use Rattle.trie.proofs.inserting.insert_value.Statement.{statement}
+use Rattle.trie.proofs.inserting.insert_value.Tie as tie
+use Rattle.trie.proofs.inserting.insert_value.Reads as reads
+use Rattle.trie.proofs.inserting.insert_value.Lts as lts
+use Rattle.trie.proofs.inserting.add_value.Reads as add-value-reads
 use Rattle.trie.proofs.slots.slot_of.Reads as slot-of-reads
 
 -- src/insert.rt:105:16

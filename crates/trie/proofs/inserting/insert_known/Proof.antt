@@ -1,12 +1,12 @@
 use Rattle.trie.proofs.KnownLaws.{too-deep, no-units, units-told}
 use borrow.Author.Needs.{needs}
-use Rattle.trie.proofs.insert.insert_known.Statement.{statement}
-use Rattle.trie.proofs.insert.insert_known.Tie as tie
-use Rattle.trie.proofs.insert.insert_known.Reads as reads
-use Rattle.trie.proofs.insert.insert_known.Lts as lts
+use Rattle.trie.proofs.inserting.insert_known.Statement.{statement}
+use Rattle.trie.proofs.inserting.insert_known.Tie as tie
+use Rattle.trie.proofs.inserting.insert_known.Reads as reads
+use Rattle.trie.proofs.inserting.insert_known.Lts as lts
 use Rattle.level.proofs.level_count.Reads as level-count-reads
 use Rattle.region.proofs.shape_of.Reads as shape-of-reads
-use Rattle.trie.proofs.insert.insert_in.Reads as insert-in-reads
+use Rattle.trie.proofs.inserting.insert_in.Reads as insert-in-reads
 
 -- src/insert.rt:135:14
 level-count-requires : tie.Need-level-count-requires

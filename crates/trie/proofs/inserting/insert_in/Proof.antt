@@ -1,13 +1,13 @@
 use Rattle.trie.proofs.InsertChain.{chain-does}
 use Rattle.trie.proofs.KnownLaws.{accepted-size}
 use borrow.Author.Needs.{needs}
-use Rattle.trie.proofs.insert.insert_in.Statement.{statement}
-use Rattle.trie.proofs.insert.insert_in.Tie as tie
-use Rattle.trie.proofs.insert.insert_in.Reads as reads
-use Rattle.trie.proofs.insert.insert_in.Lts as lts
+use Rattle.trie.proofs.inserting.insert_in.Statement.{statement}
+use Rattle.trie.proofs.inserting.insert_in.Tie as tie
+use Rattle.trie.proofs.inserting.insert_in.Reads as reads
+use Rattle.trie.proofs.inserting.insert_in.Lts as lts
 use Rattle.seek.proofs.find_path.Reads as find-path-reads
-use Rattle.trie.proofs.insert.add_chain.Reads as add-chain-reads
-use Rattle.trie.proofs.insert.insert_value.Reads as insert-value-reads
+use Rattle.trie.proofs.inserting.add_chain.Reads as add-chain-reads
+use Rattle.trie.proofs.inserting.insert_value.Reads as insert-value-reads
 
 -- src/insert.rt:123:9
 find-path-requires : tie.Need-find-path-requires

@@ -1,9 +1,9 @@
 use Rattle.trie.proofs.AddLaws.{chain-refused, chain-short, chain-added, nodes-under, chain-deep}
 use borrow.Author.Needs.{needs}
-use Rattle.trie.proofs.insert.add_chain.Statement.{statement}
-use Rattle.trie.proofs.insert.add_chain.Tie as tie
-use Rattle.trie.proofs.insert.add_chain.Reads as reads
-use Rattle.trie.proofs.insert.add_chain.Lts as lts
+use Rattle.trie.proofs.inserting.add_chain.Statement.{statement}
+use Rattle.trie.proofs.inserting.add_chain.Tie as tie
+use Rattle.trie.proofs.inserting.add_chain.Reads as reads
+use Rattle.trie.proofs.inserting.add_chain.Lts as lts
 use Rattle.region.proofs.room_for.Reads as room-for-reads
 use Rattle.region.proofs.capacities_of.Reads as capacities-of-reads
 use Rattle.room.proofs.wanted_for.Reads as wanted-for-reads

@@ -1,9 +1,9 @@
 use Rattle.trie.proofs.AddLaws.{add-refused, add-short, add-unit}
 use borrow.Author.Needs.{needs}
-use Rattle.trie.proofs.insert.add_value.Statement.{statement}
-use Rattle.trie.proofs.insert.add_value.Tie as tie
-use Rattle.trie.proofs.insert.add_value.Reads as reads
-use Rattle.trie.proofs.insert.add_value.Lts as lts
+use Rattle.trie.proofs.inserting.add_value.Statement.{statement}
+use Rattle.trie.proofs.inserting.add_value.Tie as tie
+use Rattle.trie.proofs.inserting.add_value.Reads as reads
+use Rattle.trie.proofs.inserting.add_value.Lts as lts
 use Rattle.region.proofs.room_for.Reads as room-for-reads
 use Rattle.region.proofs.capacities_of.Reads as capacities-of-reads
 use Rattle.room.proofs.make_unit.Reads as make-unit-reads

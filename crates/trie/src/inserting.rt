@@ -98,7 +98,15 @@ fn add_chain(
 }
 
 // A value for a filter whose nodes are all there.
-fn insert_value(s: &mut [u8], base: usize, n: usize, room: usize, p: Path, filter: &[u8], value: u32) -> Changed
+fn insert_value(
+    s: &mut [u8],
+    base: usize,
+    n: usize,
+    room: usize,
+    p: Path,
+    filter: &[u8],
+    value: u32,
+) -> Changed
     requires { ⌜ UnitsOf (now s) base n room × (checked (filterRules (now filter)) ≡ Accepted) × (length (split (now filter)) ≤ 128) × PathFound base (now s) n (now filter) p × (length (now filter) < p .from) ⌝ }
     ensures { λ r. ⌜ Does (insert (now (filter .entry)) value) (now (s .entry)) (now (s .exit)) r ⌝ }
 {
