@@ -14,15 +14,15 @@ use Rattle.held.specs.Retained.{Stored}
 use Rattle.region.specs.Units.{valueBytes, valueOf, momentBytes, storedBytes, storedOf}
 use Rattle.region.specs.Forms.{Form, whole, Whole}
 
-value-long : (v : ℕ) → length (valueBytes v) ≡ 16
+pub value-long : (v : ℕ) → length (valueBytes v) ≡ 16
 unfolding valueBytes bytes
 value-long v = refl
 
-value-back : (v : ℕ) → v < 256 ^ 4 → valueOf (valueBytes v) ≡ v
+pub value-back : (v : ℕ) → v < 256 ^ 4 → valueOf (valueBytes v) ≡ v
 unfolding valueBytes valueOf bytes part
 value-back v h = be-bytes 4 v h
 
-pub values : Form ℕ
+abbrev pub values : Form ℕ
 values = record { write = valueBytes; read = valueOf; Small = λ v. v < 256 ^ 4; long = value-long; back = value-back }
 
 -- a moment that fits its 8 bytes

@@ -1,0 +1,4 @@
+pub mod Heights
+pub mod NodeLaws
+pub mod NextLevel
+pub mod HitLaws

@@ -1,0 +1,28 @@
+-- The next level of a name, in the words of the code. Assumes nothing.
+use mathlib.Core.Path.{_≡_}
+use mathlib.Core.List.{List}
+use Prim.Native.Nat.{ℕ, _+_, _-_, _≤_, _<_}
+use native.Mathlib.Numerals.{add-one}
+use native.Mathlib.Omega.{arith}
+use lib.ListN.{length, take, drop}
+use Rattle.level.specs.Places.{first, levelsAt, endOf}
+use Rattle.level.proofs.Split.{levels-cons, part-first, end-within}
+use Rattle.walk.specs.Steps.{Steps, NextLevel}
+
+pub next-level : (name : List ℕ) (from : ℕ) {stop : ℕ} → from ≤ length name → stop ≡ endOf name from → NextLevel name from stop
+next-level name from {stop} h e =
+    let l : take (stop - from) (drop from name) ≡ first (drop from name) = rw e (part-first name from) in
+    record {
+      levels = rw (l, add-one stop, e) (levels-cons name from h);
+      on = omega (arith, e);
+      within = rw e (end-within name from h);
+    }
+
+pub steps-next : (name : List ℕ) (depth from stop : ℕ) → Steps name depth from → NextLevel name from stop → Steps name (depth + 1) (stop + 1)
+steps-next name depth from stop s n = record { low = omega (arith, s .low, n .on); high = omega (arith, n .within) }
+
+pub steps-top : (name : List ℕ) → Steps name 0 0
+steps-top name = record { low = omega arith; high = omega arith }
+
+pub steps-first : (name : List ℕ) (stop : ℕ) → NextLevel name 0 stop → Steps name 1 (stop + 1)
+steps-first name stop n = record { low = omega arith; high = omega (arith, n .within) }

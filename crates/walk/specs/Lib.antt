@@ -1,0 +1,4 @@
+pub mod Height
+pub mod Nodes
+pub mod Steps
+pub mod Hits

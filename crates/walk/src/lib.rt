@@ -1,0 +1,19 @@
+// The listing for a name: a walk down the tree of a region, along the name's levels.
+//
+// From a node the walk takes the child '#', then the child '+', then the child with the name's next level; where the name ends,
+// the node itself and then its child '#'. A first level that begins with '$' is taken only as it is. Whatever the bytes are, a
+// walk ends and stays within the units; no store is deeper than 128, and there a walk stops.
+mod hits;
+mod nodes;
+
+pub use hits::has_match;
+
+// A node: the unit where its values begin, the unit behind them, where its children begin, and the unit behind all below it.
+pub enum Node {
+    At {
+        values: usize,
+        end: usize,
+        past: usize,
+    },
+    Nothing,
+}

@@ -1,0 +1,60 @@
+// The children of a node that a walk takes.
+ghost use mathlib.Core.Path.{_≡_};
+ghost use mathlib.Core.List.{[], _∷_};
+ghost use Prim.Native.Nat.{_≤_, min};
+ghost use lib.ListN.{length};
+ghost use Rattle.walk.specs.Nodes.{Below, Kid};
+ghost use Rattle.walk.specs.Steps.{NextLevel};
+use crate::Node;
+use seek::Child;
+
+fn smaller(a: usize, b: usize) -> usize
+    ensures { λ r. ⌜ r ≡ min a b ⌝ }
+{
+    if b < a { b } else { a }
+}
+
+// The child with a level, of a node at a depth whose children stand in the units from lo up to hi.
+pub fn child(s: &[u8], base: usize, lo: usize, hi: usize, depth: usize, level: &[u8]) -> Node
+    requires { ⌜ Below base (now s) lo hi ⌝ }
+    ensures { λ v. ⌜ Kid base (now (s .entry)) depth lo hi (now (level .entry)) v ⌝ }
+{
+    if 128 <= depth {
+        return Node::Nothing;
+    }
+    let found = seek::find_child(s, base, lo, hi, depth + 1, level);
+    match found {
+        Child::At { node, end, past } => {
+            return Node::At {
+                values: smaller(node + (level.len() + 23) / 16, end),
+                end,
+                past,
+            };
+        }
+        Child::Nothing { place: _ } => {
+            return Node::Nothing;
+        }
+    }
+}
+
+pub fn hash(s: &[u8], base: usize, lo: usize, hi: usize, depth: usize) -> Node
+    requires { ⌜ Below base (now s) lo hi ⌝ }
+    ensures { λ v. ⌜ Kid base (now (s .entry)) depth lo hi (35 ∷ []) v ⌝ }
+{
+    child(s, base, lo, hi, depth, b"#")
+}
+
+pub fn plus(s: &[u8], base: usize, lo: usize, hi: usize, depth: usize) -> Node
+    requires { ⌜ Below base (now s) lo hi ⌝ }
+    ensures { λ v. ⌜ Kid base (now (s .entry)) depth lo hi (43 ∷ []) v ⌝ }
+{
+    child(s, base, lo, hi, depth, b"+")
+}
+
+// Where the level of the name that begins at a place ends.
+pub fn level_stop(name: &[u8], from: usize) -> usize
+    requires { ⌜ from ≤ length (now name) ⌝ }
+    ensures { λ r. ⌜ NextLevel (now (name .entry)) from r ⌝ }
+{
+    level::level_end(name, from)
+}
