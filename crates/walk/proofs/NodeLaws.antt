@@ -47,6 +47,7 @@ module _ (base : ℕ) (s : List ℕ) (d lo hi : ℕ) (g : Level) where
           rw (f .found)
           (record {
             count = omega (arith, z, f .end);
+            few = fits-fork g (f .own) (f .kids) leaf (f .node .fits) .own;
             values = rw z (stands-holds values base s (d + 1) i p g (f .own) (f .kids) leaf (f .node));
             small = fits-fork g (f .own) (f .kids) leaf (f .node .fits) .small;
             stands = f .below;
@@ -67,7 +68,7 @@ top-below base n s a b = record { low = omega arith; within = a; marks = b }
 
 pub top-is : (base n : ℕ) (s : List ℕ) → Listed base s n → NodeIs base s 0 (At 0 0 n) (hit [] (valuesIn base s n))
 top-is base n s l =
-    record { count = refl; values = part-none (unitAt base 0) s; small = tt; stands = l .stands; shallow = omega (arith, l .shallow) }
+    record { count = refl; few = omega arith; values = part-none (unitAt base 0) s; small = tt; stands = l .stands; shallow = omega (arith, l .shallow) }
 
 -- a node that was matched
 pub node-below : (base v e p : ℕ) (s : List ℕ) {n : Node} → n ≡ At v e p → NodeIn base s n → Below base s e p

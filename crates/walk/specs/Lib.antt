@@ -2,3 +2,4 @@ pub mod Height
 pub mod Nodes
 pub mod Steps
 pub mod Hits
+pub mod Sizes

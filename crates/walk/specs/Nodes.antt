@@ -41,6 +41,7 @@ pub record Below (base : ℕ) (s : List ℕ) (lo hi : ℕ) : Type 0 where
 -- values stand from the unit v up to the unit e, children from there up to the unit p, one deeper than d
 pub record NodeHolds (base : ℕ) (s : List ℕ) (d v e p : ℕ) (own : List ℕ) (kids : Forest ℕ) : Type 0 where
   pub count : e ≡ v + length own
+  pub few : length own < 65536
   pub values : part (unitAt base v) (length own * 16) s ≡ each valueBytes own
   pub small : All (λ x. x < 256 ^ 4) own
   pub stands : ValuesStand base s (d + 1) e p kids

@@ -5,8 +5,10 @@
 // walk ends and stays within the units; no store is deeper than 128, and there a walk stops.
 mod hits;
 mod nodes;
+mod sizes;
 
 pub use hits::has_match;
+pub use sizes::measure;
 
 // A node: the unit where its values begin, the unit behind them, where its children begin, and the unit behind all below it.
 pub enum Node {
@@ -16,4 +18,17 @@ pub enum Node {
         past: usize,
     },
     Nothing,
+}
+
+// Where a walk goes on: to the child '+', and to the child with the name's level, which ends at `stop`.
+struct Step {
+    any: Node,
+    own: Node,
+    stop: usize,
+}
+
+// What a listing takes.
+pub struct Measured {
+    pub bytes: usize,
+    pub records: usize,
 }

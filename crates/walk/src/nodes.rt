@@ -4,8 +4,9 @@ ghost use mathlib.Core.List.{[], _∷_};
 ghost use Prim.Native.Nat.{_≤_, min};
 ghost use lib.ListN.{length};
 ghost use Rattle.walk.specs.Nodes.{Below, Kid};
-ghost use Rattle.walk.specs.Steps.{NextLevel};
+ghost use Rattle.walk.specs.Steps.{NextLevel, StepTo};
 use crate::Node;
+use crate::Step;
 use seek::Child;
 
 fn smaller(a: usize, b: usize) -> usize
@@ -57,4 +58,25 @@ pub fn level_stop(name: &[u8], from: usize) -> usize
     ensures { λ r. ⌜ NextLevel (now (name .entry)) from r ⌝ }
 {
     level::level_end(name, from)
+}
+
+// The children of a node at a depth that a walk goes on to, with the level of the name that begins at a place.
+pub fn step(
+    s: &[u8],
+    base: usize,
+    lo: usize,
+    hi: usize,
+    depth: usize,
+    name: &[u8],
+    from: usize,
+) -> Step
+    requires { ⌜ Below base (now s) lo hi × (from ≤ length (now name)) ⌝ }
+    ensures { λ r. ⌜ StepTo base (now (s .entry)) depth lo hi (now (name .entry)) from r ⌝ }
+{
+    let stop = level_stop(name, from);
+    Step {
+        any: plus(s, base, lo, hi, depth),
+        own: child(s, base, lo, hi, depth, &name[from..stop]),
+        stop,
+    }
 }
