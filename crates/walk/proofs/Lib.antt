@@ -4,3 +4,7 @@ pub mod NextLevel
 pub mod HitLaws
 pub mod Widths
 pub mod SizeLaws
+pub mod Trails
+pub mod TextLaws
+pub mod ValueLaws
+pub mod RecordLaws

@@ -3,3 +3,5 @@ pub mod Nodes
 pub mod Steps
 pub mod Hits
 pub mod Sizes
+pub mod Trails
+pub mod Written

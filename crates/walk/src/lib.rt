@@ -5,6 +5,7 @@
 // walk ends and stays within the units; no store is deeper than 128, and there a walk stops.
 mod hits;
 mod nodes;
+mod records;
 mod sizes;
 
 pub use hits::has_match;
