@@ -17,17 +17,17 @@ use Rattle.level.specs.Levels.{join, width}
 use Rattle.held.specs.Order.{Filter}
 use Rattle.held.specs.Bytes.{each}
 use Rattle.held.specs.Subscriptions.{listingRecord}
-use Rattle.held.specs.Forest.{Hit, miss, hit, hash}
+use Rattle.held.specs.Forest.{Forest, hash, kid}
 use Rattle.held.specs.Stream.{recordAt, hashBytes}
 use Rattle.walk.specs.declared.Node.{Node}
 use Rattle.walk.specs.declared.Node.the-variants.{At, Nothing}
-use Rattle.walk.specs.Nodes.{NodeIn, NodeIs}
+use Rattle.walk.specs.Nodes.{NodeIn, NodeHolds, NodeIs, Below, Kid}
 use Rattle.walk.specs.Sizes.{recordSize}
 use Rattle.walk.specs.Trails.{pathAt, wholeText}
-use Rattle.walk.specs.Written.{Wrote, unitValues, Values, RecordRoom, RecordWritten, HashRoom, HashWritten}
+use Rattle.walk.specs.Written.{Wrote, unitValues, Values, RecordRoom, RecordWritten, HashRoom, HashWritten, BelowWritten, EndWritten}
 use Rattle.walk.proofs.NodeLaws.{opened, missed}
-use Rattle.walk.proofs.Widths.{length-record, length-join-next}
-use Rattle.walk.proofs.Trails.{length-whole, join-hash}
+use Rattle.walk.proofs.Widths.{length-record, length-join}
+use Rattle.walk.proofs.Trails.{length-whole, join-hash, join-own}
 use Rattle.walk.proofs.ValueLaws.{length-values, values-are}
 
 -- nothing, and one after the other
@@ -174,3 +174,34 @@ module _ (base : ℕ) (s : List ℕ) (size : ℕ) (name marks : List ℕ) (depth
 
   pub hash-absent : n ≡ Nothing → at ≤ length old → HashWritten base s n (pathAt marks depth name) old old at at
   hash-absent is h = record { within = h; is = λ d k i. rw (missed base s d n k is i) (wrote-none old at) }
+
+pub below-written : (base : ℕ) (s : List ℕ) (lo hi depth : ℕ) (p : Filter) {n : Node} (old new : List ℕ) (at next : ℕ) → Kid base s depth lo hi hash n → HashWritten base s n p old new at next
+    → BelowWritten base s lo hi depth p old new at next
+below-written base s lo hi depth p {n} old new at next k w =
+    record { within = w .within; is = λ F a b. w .is (depth + 1) (kid hash F) (k .is F a b) }
+
+-- a node's own, and then that of its '#'
+pub own-record : (base : ℕ) (s : List ℕ) (e q size t : ℕ) (name marks : List ℕ) (depth : ℕ) → Below base s e q → HashRoom size name marks depth → t ≡ size - 1
+    → RecordRoom base s e t name marks depth
+own-record base s e q size t name marks depth b r et =
+    record {
+      units = omega (arith, b .low, b .within);
+      short = omega (arith, r .short, et);
+      deep = r .deep;
+      marked = r .marked;
+      some = r .some;
+      text-fits = omega (arith, r .size-is, et);
+    }
+
+pub end-written : (base : ℕ) (s : List ℕ) (v e q size t : ℕ) (name marks : List ℕ) (depth : ℕ) (old mid new : List ℕ) (at n next : ℕ) → HashRoom size name marks depth → t ≡ size - 1 → length mid ≡ length old
+    → RecordWritten base s v e t (pathAt marks depth name) old mid at n → BelowWritten base s e q depth (pathAt marks depth name) mid new n next
+    → EndWritten base s v e q depth (pathAt marks depth name) old new at next
+end-written base s v e q size t name marks depth old mid new at n next r et l a b =
+    let p : Filter = pathAt marks depth name in
+    let z : length (join p) ≡ t = length-join p ∙ omega (arith, r .size-is, et) in
+    record {
+      within = omega (arith, b .within, l);
+      is = λ own kids h.
+        let vals : Values base s v e own = record { count = h .count; few = h .few; units = h .values; small = h .small } in
+        wrote-then old mid new at (recordAt p own) (hashBytes p (kid hash kids)) n next l (a .is own vals p (join-own p t z) z) (b .is kids (h .stands) (h .shallow));
+    }

@@ -2,7 +2,7 @@
 use mathlib.Core.Path.{_≡_}
 use mathlib.Core.Bool.{cond}
 use mathlib.Core.List.{List, [], _∷_, _++_}
-use Prim.Native.Nat.{ℕ, _+_, _≤_}
+use Prim.Native.Nat.{ℕ, _+_, _*_, _≤_}
 use lib.Dec.{eqb}
 use lib.ListN.{length, take, drop}
 use Rattle.level.specs.Levels.{split, width}
@@ -38,3 +38,7 @@ pub record Trail (name marks : List ℕ) (depth from size : ℕ) : Type 0 where
   pub some : depth ≤ length (split name)
   pub levels : levelsAt name from ≡ drop depth (split name)
   pub size-is : width (pathAt marks depth name) ≡ size
+  pub marked : length marks ≡ 128
+  pub high : from ≤ length name + 1
+  pub small : size ≤ 2 * from
+  pub short : length name ≤ 65535

@@ -10,12 +10,13 @@ use Rattle.level.specs.Places.{levelsAt}
 use Rattle.held.specs.Order.{Filter}
 use Rattle.held.specs.Ascending.{All}
 use Rattle.held.specs.Bytes.{each}
-use Rattle.held.specs.Forest.{Hit}
+use Rattle.held.specs.Forest.{Forest, Hit, hash, kid}
 use Rattle.held.specs.Stream.{recordAt, hashBytes, walkBytes}
 use Rattle.region.specs.Units.{valueBytes}
 use Rattle.forest.specs.Places.{unitAt}
 use Rattle.walk.specs.declared.Node.{Node}
-use Rattle.walk.specs.Nodes.{NodeIs}
+use Rattle.walk.specs.Height.{heightF}
+use Rattle.walk.specs.Nodes.{ValuesStand, NodeHolds, NodeIs}
 use Rattle.walk.specs.Trails.{pathAt, wholeText}
 
 -- ws is written from `at` on, where there is room, and `next` is the place after it
@@ -65,6 +66,16 @@ pub record RecordWritten (base : ℕ) (s : List ℕ) (v e text : ℕ) (p : Filte
 pub record HashWritten (base : ℕ) (s : List ℕ) (n : Node) (p : Filter) (old new : List ℕ) (at next : ℕ) : Type 0 where
   pub within : next ≤ length old
   pub is : (d : ℕ) (h : Hit ℕ) → NodeIs base s d n h → Wrote old new at (hashBytes p h) next
+
+-- the record of the '#' among the children of a node at a depth, which stand from lo up to hi
+pub record BelowWritten (base : ℕ) (s : List ℕ) (lo hi depth : ℕ) (p : Filter) (old new : List ℕ) (at next : ℕ) : Type 0 where
+  pub within : next ≤ length old
+  pub is : (F : Forest ℕ) → ValuesStand base s (depth + 1) lo hi F → depth + heightF F ≤ 128 → Wrote old new at (hashBytes p (kid hash F)) next
+
+-- and before it the node's own
+pub record EndWritten (base : ℕ) (s : List ℕ) (v e q depth : ℕ) (p : Filter) (old new : List ℕ) (at next : ℕ) : Type 0 where
+  pub within : next ≤ length old
+  pub is : (own : List ℕ) (kids : Forest ℕ) → NodeHolds base s depth v e q own kids → Wrote old new at (recordAt p own ++ hashBytes p (kid hash kids)) next
 
 -- a walk from a node at a depth, with the name's levels from a place on; it may change the marks that are deeper
 pub record Walked (base : ℕ) (s : List ℕ) (n : Node) (name marks kept : List ℕ) (depth from : ℕ) (old new : List ℕ) (at next : ℕ) : Type 0 where

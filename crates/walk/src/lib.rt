@@ -4,11 +4,13 @@
 // the node itself and then its child '#'. A first level that begins with '$' is taken only as it is. Whatever the bytes are, a
 // walk ends and stays within the units; no store is deeper than 128, and there a walk stops.
 mod hits;
+mod listing;
 mod nodes;
 mod records;
 mod sizes;
 
 pub use hits::has_match;
+pub use listing::write_all;
 pub use sizes::measure;
 
 // A node: the unit where its values begin, the unit behind them, where its children begin, and the unit behind all below it.

@@ -12,8 +12,8 @@ ghost use Rattle.level.specs.Levels.{split, width};
 ghost use Rattle.held.specs.Bytes.{each};
 ghost use Rattle.forest.specs.Places.{unitAt};
 ghost use Rattle.walk.specs.Trails.{taken, pathAt, wholeText};
-ghost use Rattle.walk.specs.Nodes.{NodeIn};
-ghost use Rattle.walk.specs.Written.{WroteLevel, unitValues, RecordRoom, RecordWritten, HashRoom, HashWritten};
+ghost use Rattle.walk.specs.Nodes.{NodeIn, Below};
+ghost use Rattle.walk.specs.Written.{WroteLevel, unitValues, RecordRoom, RecordWritten, HashRoom, HashWritten, BelowWritten, EndWritten};
 use crate::Node;
 use crate::nodes;
 use crate::sizes;
@@ -142,4 +142,46 @@ pub fn write_hash(
             return at;
         }
     }
+}
+
+// The record of the '#' among the children of a node at a depth, which stand in the units from lo up to hi.
+pub fn write_below(
+    out: &mut [u8],
+    at: usize,
+    s: &[u8],
+    base: usize,
+    lo: usize,
+    hi: usize,
+    size: usize,
+    name: &[u8],
+    marks: &[u8],
+    depth: usize,
+) -> usize
+    requires { ⌜ Below base (now s) lo hi × HashRoom size (now name) (now marks) depth × (at ≤ length (now out)) ⌝ }
+    ensures { λ r. ⌜ BelowWritten base (now (s .entry)) lo hi depth (pathAt (now (marks .entry)) depth (now (name .entry))) (now (out .entry)) (now (out .exit)) at r ⌝ }
+{
+    let all = nodes::hash(s, base, lo, hi, depth);
+    write_hash(out, at, s, base, all, size, name, marks, depth)
+}
+
+// A node's own record, and then that of the '#' among its children.
+pub fn write_end(
+    out: &mut [u8],
+    at: usize,
+    s: &[u8],
+    base: usize,
+    values: usize,
+    end: usize,
+    past: usize,
+    size: usize,
+    name: &[u8],
+    marks: &[u8],
+    depth: usize,
+) -> usize
+    requires { ⌜ Below base (now s) end past × HashRoom size (now name) (now marks) depth × (at ≤ length (now out)) ⌝ }
+    ensures { λ r. ⌜ EndWritten base (now (s .entry)) values end past depth (pathAt (now (marks .entry)) depth (now (name .entry))) (now (out .entry)) (now (out .exit)) at r ⌝ }
+{
+    let text = sizes::own_text(size);
+    let next = write_record(out, at, s, base, values, end, text, name, marks, depth);
+    write_below(out, next, s, base, end, past, size, name, marks, depth)
 }
