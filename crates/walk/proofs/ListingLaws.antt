@@ -5,28 +5,30 @@ use mathlib.Core.List.{List, [], _∷_, _++_}
 use Prim.Native.Nat.{ℕ, zero, suc, _+_, _-_, _*_, _≤_, _<_}
 use native.Mathlib.Numerals.{add-one}
 use native.Mathlib.Omega.{arith}
-use lib.ListN.{length, take, drop, set, length-set}
+use lib.ListN.{length, take, drop, set, replicate, length-set, length-replicate}
 use lib.Seq.{take-take, take-set-le}
+use Rattle.lent.specs.Parts.{patch}
 use Rattle.level.specs.Kinds.{dollar}
 use Rattle.level.specs.Levels.{split, width}
 use Rattle.level.specs.Places.{first, levelsAt}
 use Rattle.level.proofs.Split.{levels-cons, levels-none}
 use Rattle.held.specs.Order.{Level, Filter}
 use Rattle.held.specs.Forest.{Forest, Hit, miss, hit, hash, plus, kid}
-use Rattle.held.specs.Stream.{hashBytes, walkBytes}
+use Rattle.held.specs.Stream.{hashBytes, walkBytes, listBytes}
 use Rattle.held.proofs.Equations.{walk-miss, walk-end, walk-on}
 use Rattle.walk.specs.declared.Node.{Node}
 use Rattle.walk.specs.declared.Step.{Step}
 use Rattle.walk.specs.declared.Node.the-variants.{At, Nothing}
 use Rattle.walk.specs.Height.{heightF}
-use Rattle.walk.specs.Nodes.{NodeIs, Kid}
+use Rattle.walk.specs.Nodes.{NodeIs, Kid, Listed, valuesIn}
 use Rattle.walk.specs.Steps.{NextLevel, StepTo}
 use Rattle.walk.specs.Trails.{taken, pathOf, pathAt, Trail}
 use Rattle.walk.specs.Written.{Wrote, HashRoom, BelowWritten, EndWritten, Walked}
 use Rattle.walk.proofs.Heights.{kid-leaf}
-use Rattle.walk.proofs.NodeLaws.{opened, missed, kid-of}
+use Rattle.walk.proofs.NodeLaws.{opened, missed, kid-of, top-is}
 use Rattle.walk.proofs.Widths.{width-next}
-use Rattle.walk.proofs.Trails.{path-set, here, levels-next, more-levels}
+use Rattle.walk.proofs.Trails.{path-next, path-set, here, levels-next, more-levels}
+use Rattle.walk.proofs.SizeLaws.{list-bytes, literal-bytes}
 use Rattle.walk.proofs.RecordLaws.{wrote-none, wrote-then}
 
 -- a trail
@@ -94,8 +96,8 @@ module _ (base : ℕ) (s name marks : List ℕ) (depth from : ℕ) (old : List �
           within = w .within;
           same = refl;
           is = λ h i.
-            let o = opened base s depth v e q n h is i in
-            rw (levels-none name from end, o .is, walk-end) (w .is (o .own) (o .kids) (o .holds));
+              let o = opened base s depth v e q n h is i in
+              rw (levels-none name from end, o .is, walk-end) (w .is (o .own) (o .kids) (o .holds));
         }
 
     -- no children are deeper than 128
@@ -105,9 +107,9 @@ module _ (base : ℕ) (s name marks : List ℕ) (depth from : ℕ) (old : List �
           within = l;
           same = refl;
           is = λ h i.
-            let o = opened base s depth v e q n h is i in
-            let z : heightF (o .kids) ≤ 0 = omega (arith, o .holds .shallow, deep) in
-            rw (levels-cons name from more, o .is, walk-on, kid-leaf hash (o .kids) z, kid-leaf plus (o .kids) z, kid-leaf (first (drop from name)) (o .kids) z, walk-miss, walk-miss) (wrote-none old at);
+              let o = opened base s depth v e q n h is i in
+              let z : heightF (o .kids) ≤ 0 = omega (arith, o .holds .shallow, deep) in
+              rw (levels-cons name from more, o .is, walk-on, kid-leaf hash (o .kids) z, kid-leaf plus (o .kids) z, kid-leaf (first (drop from name)) (o .kids) z, walk-miss, walk-miss) (wrote-none old at);
         }
 
     pub walked-on : (size : ℕ) → Trail name marks depth from size → depth < 128
@@ -127,9 +129,66 @@ module _ (base : ℕ) (s name marks : List ℕ) (depth from : ℕ) (old : List �
               sym (take-take depth (depth + 1) m3 (omega arith)) ∙ ap (take depth) (w3 .same) ∙ take-take depth (depth + 1) (set m2 depth 0) (omega arith)
               ∙ take-set-le depth m2 depth 0 (omega arith) ∙ same-marks name marks depth from size (t .stop) tr (st .next) more m2 (w2 .same);
           is = λ h i.
-            let o = opened base s depth v e q n h is i in
-            let y2 = rw d2 at (w2 .is (kid plus (o .kids)) (kid-of base s depth v e q h o plus (t .any) (st .any))) in
-            let y3 = rw d3 at (w3 .is (kid g (o .kids)) (kid-of base s depth v e q h o g (t .own) (st .own))) in
-            rw (st .next .levels, o .is, walk-on)
-            (wrote-then old o1 o3 at _ _ n1 n3 l1 (b .is (o .kids) (o .holds .stands) (o .holds .shallow)) (wrote-then o1 o2 o3 n1 _ _ n2 n3 l2 y2 y3));
+              let o = opened base s depth v e q n h is i in
+              let y2 = rw d2 at (w2 .is (kid plus (o .kids)) (kid-of base s depth v e q h o plus (t .any) (st .any))) in
+              let y3 = rw d3 at (w3 .is (kid g (o .kids)) (kid-of base s depth v e q h o g (t .own) (st .own))) in
+              rw (st .next .levels, o .is, walk-on)
+              (wrote-then old o1 o3 at _ _ n1 n3 l1 (b .is (o .kids) (o .holds .stands) (o .holds .shallow)) (wrote-then o1 o2 o3 n1 _ _ n2 n3 l2 y2 y3));
         }
+
+-- from the top
+path-top : (marks name : List ℕ) → pathAt marks 0 name ≡ []
+unfolding pathOf
+path-top marks name = refl
+
+pub trail-top : (name marks : List ℕ) → length name ≤ 65535 → length marks ≡ 128 → Trail name marks 0 0 0
+trail-top name marks h m =
+    record {
+      deep = omega arith;
+      some = omega arith;
+      levels = refl;
+      size-is = ap width (path-top marks name);
+      marked = m;
+      high = omega arith;
+      small = omega arith;
+      short = h;
+    }
+
+module _ (name marks : List ℕ) (stop : ℕ) (next : NextLevel name 0 stop) (none : marks ≡ replicate 128 0) where
+  path-first : pathAt marks 1 name ≡ take (stop - 0) (drop 0 name) ∷ []
+  path-first = rw none (path-next (replicate 128 0) 0 (split name) _ _ (omega arith) (here name 0 0 stop refl next) ∙ rw (path-top (replicate 128 0) name))
+
+  pub trail-first : length name ≤ 65535 → Trail name marks 1 (stop + 1) (stop + 1)
+  trail-first h =
+      record {
+        deep = omega arith;
+        some = more-levels name 0 0 stop refl next;
+        levels = levels-next name 0 0 stop refl next;
+        size-is = ap width path-first ∙ omega (arith, next .long);
+        marked = ap length none ∙ length-replicate {A = ℕ} 128 0;
+        high = omega (arith, next .within);
+        small = omega arith;
+        short = h;
+      }
+
+module _ (base n : ℕ) (s name : List ℕ) (stop : ℕ) (next : NextLevel name 0 stop) {t : Bool} (meta : t ≡ dollar (take (stop - 0) (drop 0 name)))
+    (marks kept old new : List ℕ) (end : ℕ) where
+  abbrev Whole : Type 0
+  Whole = length (listBytes (split name) (valuesIn base s n)) ≤ length old → new ≡ patch 0 (listBytes (split name) (valuesIn base s n)) old
+
+  pub top-listed : t ≡ false → Walked base s (At 0 0 n) name marks kept 0 0 old new 0 end → Listed base s n → Whole
+  top-listed e w l h =
+      let F : Forest ℕ = valuesIn base s n in
+      let b : listBytes (split name) F ≡ walkBytes [] (split name) (hit [] F) = list-bytes base n s name stop next meta false e F in
+      let z = rw (path-top marks name) at (w .is (hit [] F) (top-is base n s l)) in
+      let k = rw b at h in
+      rw b (z .stored (omega (arith, k)))
+
+  pub dollar-listed : t ≡ true → marks ≡ replicate 128 0 → {own : Node} → Kid base s 0 0 n (take (stop - 0) (drop 0 name)) own → Walked base s own name marks kept 1 (stop + 1) old new 0 end → Listed base s n → Whole
+  dollar-listed e none {own} k w l h =
+      let F : Forest ℕ = valuesIn base s n in
+      let g : Level = take (stop - 0) (drop 0 name) in
+      let b : listBytes (split name) F ≡ walkBytes (g ∷ []) (levelsAt name (stop + 1)) (kid g F) = list-bytes base n s name stop next meta true e F ∙ literal-bytes base n s name stop next meta F in
+      let z = rw (path-first name marks stop next none) at (w .is (kid g F) (k .is F (l .stands) (omega (arith, l .shallow)))) in
+      let k = rw b at h in
+      rw b (z .stored (omega (arith, k)))

@@ -202,6 +202,6 @@ end-written base s v e q size t name marks depth old mid new at n next r et l a 
     record {
       within = omega (arith, b .within, l);
       is = λ own kids h.
-        let vals : Values base s v e own = record { count = h .count; few = h .few; units = h .values; small = h .small } in
-        wrote-then old mid new at (recordAt p own) (hashBytes p (kid hash kids)) n next l (a .is own vals p (join-own p t z) z) (b .is kids (h .stands) (h .shallow));
+          let vals : Values base s v e own = record { count = h .count; few = h .few; units = h .values; small = h .small } in
+          wrote-then old mid new at (recordAt p own) (hashBytes p (kid hash kids)) n next l (a .is own vals p (join-own p t z) z) (b .is kids (h .stands) (h .shallow));
     }

@@ -116,7 +116,7 @@ module _ (base n : ℕ) (s name : List ℕ) (stop : ℕ) (next : NextLevel name 
   lead : leadDollar (split name) ≡ t
   lead = rw (next .levels) (sym meta)
 
-  list-bytes : (u : Bool) → t ≡ u → (F : Forest ℕ) → listBytes (split name) F ≡ cond u (literalBytes (split name) F) (walkBytes [] (split name) (hit [] F))
+  pub list-bytes : (u : Bool) → t ≡ u → (F : Forest ℕ) → listBytes (split name) F ≡ cond u (literalBytes (split name) F) (walkBytes [] (split name) (hit [] F))
   unfolding listBytes
   list-bytes u e F = rw (lead, e)
 
@@ -124,7 +124,7 @@ module _ (base n : ℕ) (s name : List ℕ) (stop : ℕ) (next : NextLevel name 
   unfolding listCount
   list-count u e F = rw (lead, e)
 
-  literal-bytes : (F : Forest ℕ) → literalBytes (split name) F ≡ walkBytes (take (stop - 0) (drop 0 name) ∷ []) (levelsAt name (stop + 1)) (kid (take (stop - 0) (drop 0 name)) F)
+  pub literal-bytes : (F : Forest ℕ) → literalBytes (split name) F ≡ walkBytes (take (stop - 0) (drop 0 name) ∷ []) (levelsAt name (stop + 1)) (kid (take (stop - 0) (drop 0 name)) F)
   unfolding literalBytes
   literal-bytes F = rw (next .levels)
 

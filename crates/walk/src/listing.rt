@@ -34,7 +34,19 @@ fn write_walk(
         return at;
     };
     if name.len() < from {
-        return records::write_end(out, at, s, base, values, end, past, size, name, marks, depth);
+        return records::write_end(
+            out,
+            at,
+            s,
+            base,
+            values,
+            end,
+            past,
+            size,
+            name,
+            marks,
+            depth,
+        );
     }
     if 128 <= depth {
         return at;
@@ -65,7 +77,18 @@ pub fn write_all(s: &[u8], base: usize, n: usize, name: &[u8], out: &mut [u8])
     let first = &name[0..stop];
     if level::is_metadata(first) {
         let own = nodes::child(s, base, 0, n, 0, first);
-        write_walk(s, base, own, 1, name, stop + 1, stop + 1, &mut marks, out, 0);
+        write_walk(
+            s,
+            base,
+            own,
+            1,
+            name,
+            stop + 1,
+            stop + 1,
+            &mut marks,
+            out,
+            0,
+        );
         return;
     }
     let top = Node::At {

@@ -1,5 +1,11 @@
+-- `walk::listing::write_walk` meets its contract: the name's remaining bytes fall. Assumes nothing.
 use borrow.Author.Needs.{needs}
-use Prim.Native.Nat.{ℕ, _<_}
+use native.Mathlib.Omega.{arith}
+use mathlib.Core.Path.{sym, _∙_}
+use lib.ListN.{length}
+use Rattle.walk.proofs.NodeLaws.{node-below}
+use Rattle.walk.proofs.ListingLaws.{trail-room, trail-plus, trail-level, not-walked, walked-end, walked-deep, walked-on}
+use Prim.Native.Nat.{ℕ, _<_, _+_, _-_}
 use borrow.Fn.Kinds.{In}
 use borrow.Fn.PlainCycle.{Measures, is, falls, and}
 use Rattle.walk.proofs.listing.write_walk.Reads as write-walk
@@ -12,7 +18,7 @@ use Rattle.walk.proofs.listing.+write_walk.{statement}
 use Rattle.walk.proofs.listing.+write_walk.Tie.{close}
 
 abbrev μ-write-walk : Measures 4 write-walk-kinds.ps ℕ
-μ-write-walk κs a = ?
+μ-write-walk κs a = length (a .1 .1 .1 .1 .0 .now) + 1 - a .1 .1 .1 .1 .1 .0
 
 abbrev write-walk-at : ℕ → In 4 write-walk-kinds.ps
 write-walk-at t =
@@ -22,316 +28,104 @@ abbrev write-walk-below : ℕ → In 4 write-walk-kinds.ps
 write-walk-below t =
     and 4 write-walk-kinds.ps (falls 4 write-walk-kinds.ps _<_ μ-write-walk t) write-walk.Pre
 
--- src/listing.rt:33:20
-write-walk-enum-known-node : (t : ℕ) → write-walk-lts.Need-enum-known-node (
-  write-end-reads.Asked,
-  write-end-reads.Learnt,
-  write-below-reads.Asked,
-  write-below-reads.Learnt,
-  step-reads.Asked,
-  step-reads.Learnt,
-  write-walk-below t,
-  write-walk.Post,
-) (write-walk-at t) write-walk.Post
+abbrev write-walk-claims : ℕ → write-walk-lts.Claims
+write-walk-claims t = (write-end-reads.Asked, write-end-reads.Learnt, write-below-reads.Asked, write-below-reads.Learnt, step-reads.Asked, step-reads.Learnt, write-walk-below t, write-walk.Post)
+
+write-walk-enum-known-node : (t : ℕ) → write-walk-lts.Need-enum-known-node (write-walk-claims t) (write-walk-at t) write-walk.Post
 write-walk-enum-known-node t c = search needs
 
--- src/listing.rt:34:9
-write-walk-enum-told : (t : ℕ) → write-walk-lts.Need-enum-told (
-  write-end-reads.Asked,
-  write-end-reads.Learnt,
-  write-below-reads.Asked,
-  write-below-reads.Learnt,
-  step-reads.Asked,
-  step-reads.Learnt,
-  write-walk-below t,
-  write-walk.Post,
-) (write-walk-at t) write-walk.Post
+write-walk-enum-told : (t : ℕ) → write-walk-lts.Need-enum-told (write-walk-claims t) (write-walk-at t) write-walk.Post
 write-walk-enum-told t c = search needs
 
--- src/listing.rt:34:9
-write-walk-returns : (t : ℕ) → write-walk-lts.Need-returns (
-  write-end-reads.Asked,
-  write-end-reads.Learnt,
-  write-below-reads.Asked,
-  write-below-reads.Learnt,
-  step-reads.Asked,
-  step-reads.Learnt,
-  write-walk-below t,
-  write-walk.Post,
-) (write-walk-at t) write-walk.Post
-write-walk-returns t c = search needs
+write-walk-returns : (t : ℕ) → write-walk-lts.Need-returns (write-walk-claims t) (write-walk-at t) write-walk.Post
+write-walk-returns t c = search (needs, not-walked)
 
--- src/listing.rt:37:9
-write-walk-write-end-requires : (t : ℕ) → write-walk-lts.Need-write-end-requires (
-  write-end-reads.Asked,
-  write-end-reads.Learnt,
-  write-below-reads.Asked,
-  write-below-reads.Learnt,
-  step-reads.Asked,
-  step-reads.Learnt,
-  write-walk-below t,
-  write-walk.Post,
-) (write-walk-at t) write-walk.Post
-write-walk-write-end-requires t c κs = search needs
+write-walk-write-end-requires : (t : ℕ) → write-walk-lts.Need-write-end-requires (write-walk-claims t) (write-walk-at t) write-walk.Post
+write-walk-write-end-requires t c κs = (search (needs, node-below), search (needs, trail-room), search needs)
 
--- src/listing.rt:37:9
-write-walk-same-length : (t : ℕ) → write-walk-lts.Need-same-length (
-  write-end-reads.Asked,
-  write-end-reads.Learnt,
-  write-below-reads.Asked,
-  write-below-reads.Learnt,
-  step-reads.Asked,
-  step-reads.Learnt,
-  write-walk-below t,
-  write-walk.Post,
-) (write-walk-at t) write-walk.Post
+write-walk-same-length : (t : ℕ) → write-walk-lts.Need-same-length (write-walk-claims t) (write-walk-at t) write-walk.Post
 write-walk-same-length t c = search needs
 
--- src/listing.rt:37:9
-write-walk-same-length-2 : (t : ℕ) → write-walk-lts.Need-same-length-2 (
-  write-end-reads.Asked,
-  write-end-reads.Learnt,
-  write-below-reads.Asked,
-  write-below-reads.Learnt,
-  step-reads.Asked,
-  step-reads.Learnt,
-  write-walk-below t,
-  write-walk.Post,
-) (write-walk-at t) write-walk.Post
+write-walk-same-length-2 : (t : ℕ) → write-walk-lts.Need-same-length-2 (write-walk-claims t) (write-walk-at t) write-walk.Post
 write-walk-same-length-2 t c = search needs
 
--- src/listing.rt:37:9
-write-walk-returns-2 : (t : ℕ) → write-walk-lts.Need-returns-2 (
-  write-end-reads.Asked,
-  write-end-reads.Learnt,
-  write-below-reads.Asked,
-  write-below-reads.Learnt,
-  step-reads.Asked,
-  step-reads.Learnt,
-  write-walk-below t,
-  write-walk.Post,
-) (write-walk-at t) write-walk.Post
-write-walk-returns-2 t c = search needs
+write-walk-returns-2 : (t : ℕ) → write-walk-lts.Need-returns-2 (write-walk-claims t) (write-walk-at t) write-walk.Post
+write-walk-returns-2 t c = search (needs, walked-end)
 
--- src/listing.rt:40:9
-write-walk-returns-3 : (t : ℕ) → write-walk-lts.Need-returns-3 (
-  write-end-reads.Asked,
-  write-end-reads.Learnt,
-  write-below-reads.Asked,
-  write-below-reads.Learnt,
-  step-reads.Asked,
-  step-reads.Learnt,
-  write-walk-below t,
-  write-walk.Post,
-) (write-walk-at t) write-walk.Post
-write-walk-returns-3 t c = search needs
+write-walk-returns-3 : (t : ℕ) → write-walk-lts.Need-returns-3 (write-walk-claims t) (write-walk-at t) write-walk.Post
+write-walk-returns-3 t c = search (needs, walked-deep)
 
--- src/listing.rt:42:9
-write-walk-write-below-requires : (t : ℕ) → write-walk-lts.Need-write-below-requires (
-  write-end-reads.Asked,
-  write-end-reads.Learnt,
-  write-below-reads.Asked,
-  write-below-reads.Learnt,
-  step-reads.Asked,
-  step-reads.Learnt,
-  write-walk-below t,
-  write-walk.Post,
-) (write-walk-at t) write-walk.Post
-write-walk-write-below-requires t c κs = search needs
+write-walk-write-below-requires : (t : ℕ) → write-walk-lts.Need-write-below-requires (write-walk-claims t) (write-walk-at t) write-walk.Post
+write-walk-write-below-requires t c κs = (search (needs, node-below), search (needs, trail-room), search needs)
 
--- src/listing.rt:43:9
-write-walk-step-requires : (t : ℕ) → write-walk-lts.Need-step-requires (
-  write-end-reads.Asked,
-  write-end-reads.Learnt,
-  write-below-reads.Asked,
-  write-below-reads.Learnt,
-  step-reads.Asked,
-  step-reads.Learnt,
-  write-walk-below t,
-  write-walk.Post,
-) (write-walk-at t) write-walk.Post
-write-walk-step-requires t c κs = search needs
+write-walk-step-requires : (t : ℕ) → write-walk-lts.Need-step-requires (write-walk-claims t) (write-walk-at t) write-walk.Post
+write-walk-step-requires t c κs = search (needs, node-below)
 
--- src/listing.rt:47:17
-write-walk-add-below : (t : ℕ) → write-walk-lts.Need-add-below (
-  write-end-reads.Asked,
-  write-end-reads.Learnt,
-  write-below-reads.Asked,
-  write-below-reads.Learnt,
-  step-reads.Asked,
-  step-reads.Learnt,
-  write-walk-below t,
-  write-walk.Post,
-) (write-walk-at t) write-walk.Post
+write-walk-add-below : (t : ℕ) → write-walk-lts.Need-add-below (write-walk-claims t) (write-walk-at t) write-walk.Post
 write-walk-add-below t c = search needs
 
--- src/listing.rt:48:18
-write-walk-add-beyond : (t : ℕ) → write-walk-lts.Need-add-beyond (
-  write-end-reads.Asked,
-  write-end-reads.Learnt,
-  write-below-reads.Asked,
-  write-below-reads.Learnt,
-  step-reads.Asked,
-  step-reads.Learnt,
-  write-walk-below t,
-  write-walk.Post,
-) (write-walk-at t) write-walk.Post
+write-walk-add-beyond : (t : ℕ) → write-walk-lts.Need-add-beyond (write-walk-claims t) (write-walk-at t) write-walk.Post
 write-walk-add-beyond t c = search needs
 
--- src/listing.rt:49:16
-write-walk-add-wide : (t : ℕ) → write-walk-lts.Need-add-wide (
-  write-end-reads.Asked,
-  write-end-reads.Learnt,
-  write-below-reads.Asked,
-  write-below-reads.Learnt,
-  step-reads.Asked,
-  step-reads.Learnt,
-  write-walk-below t,
-  write-walk.Post,
-) (write-walk-at t) write-walk.Post
+write-walk-add-wide : (t : ℕ) → write-walk-lts.Need-add-wide (write-walk-claims t) (write-walk-at t) write-walk.Post
 write-walk-add-wide t c = search needs
 
--- src/listing.rt:50:24
-write-walk-sub-long : (t : ℕ) → write-walk-lts.Need-sub-long (
-  write-end-reads.Asked,
-  write-end-reads.Learnt,
-  write-below-reads.Asked,
-  write-below-reads.Learnt,
-  step-reads.Asked,
-  step-reads.Learnt,
-  write-walk-below t,
-  write-walk.Post,
-) (write-walk-at t) write-walk.Post
+write-walk-sub-long : (t : ℕ) → write-walk-lts.Need-sub-long (write-walk-claims t) (write-walk-at t) write-walk.Post
 write-walk-sub-long t c = search needs
 
--- src/listing.rt:50:16
-write-walk-add-long : (t : ℕ) → write-walk-lts.Need-add-long (
-  write-end-reads.Asked,
-  write-end-reads.Learnt,
-  write-below-reads.Asked,
-  write-below-reads.Learnt,
-  step-reads.Asked,
-  step-reads.Learnt,
-  write-walk-below t,
-  write-walk.Post,
-) (write-walk-at t) write-walk.Post
+write-walk-add-long : (t : ℕ) → write-walk-lts.Need-add-long (write-walk-claims t) (write-walk-at t) write-walk.Post
 write-walk-add-long t c = search needs
 
--- src/listing.rt:50:16
-write-walk-add-long-2 : (t : ℕ) → write-walk-lts.Need-add-long-2 (
-  write-end-reads.Asked,
-  write-end-reads.Learnt,
-  write-below-reads.Asked,
-  write-below-reads.Learnt,
-  step-reads.Asked,
-  step-reads.Learnt,
-  write-walk-below t,
-  write-walk.Post,
-) (write-walk-at t) write-walk.Post
+write-walk-add-long-2 : (t : ℕ) → write-walk-lts.Need-add-long-2 (write-walk-claims t) (write-walk-at t) write-walk.Post
 write-walk-add-long-2 t c = search needs
 
--- src/listing.rt:51:5
-write-walk-slice-write-marks : (t : ℕ) → write-walk-lts.Need-slice-write-marks (
-  write-end-reads.Asked,
-  write-end-reads.Learnt,
-  write-below-reads.Asked,
-  write-below-reads.Learnt,
-  step-reads.Asked,
-  step-reads.Learnt,
-  write-walk-below t,
-  write-walk.Post,
-) (write-walk-at t) write-walk.Post
+write-walk-slice-write-marks : (t : ℕ) → write-walk-lts.Need-slice-write-marks (write-walk-claims t) (write-walk-at t) write-walk.Post
 write-walk-slice-write-marks t c = search needs
 
--- src/listing.rt:52:9
-write-walk-write-walk-requires : (t : ℕ) → write-walk-lts.Need-write-walk-requires (
-  write-end-reads.Asked,
-  write-end-reads.Learnt,
-  write-below-reads.Asked,
-  write-below-reads.Learnt,
-  step-reads.Asked,
-  step-reads.Learnt,
-  write-walk-below t,
-  write-walk.Post,
-) (write-walk-at t) write-walk.Post
-write-walk-write-walk-requires t c κs = search needs
+write-walk-write-walk-requires : (t : ℕ) → write-walk-lts.Need-write-walk-requires (write-walk-claims t) (write-walk-at t) write-walk.Post
+write-walk-write-walk-requires t c κs = (search needs, (search needs, search (needs, trail-plus), search needs))
 
--- src/listing.rt:53:5
-write-walk-slice-write-marks-2 : (t : ℕ) → write-walk-lts.Need-slice-write-marks-2 (
-  write-end-reads.Asked,
-  write-end-reads.Learnt,
-  write-below-reads.Asked,
-  write-below-reads.Learnt,
-  step-reads.Asked,
-  step-reads.Learnt,
-  write-walk-below t,
-  write-walk.Post,
-) (write-walk-at t) write-walk.Post
-write-walk-slice-write-marks-2 t c = search needs
+write-walk-slice-write-marks-2 : (t : ℕ) → write-walk-lts.Need-slice-write-marks-2 (write-walk-claims t) (write-walk-at t) write-walk.Post
+write-walk-slice-write-marks-2 t c =
+    let p = c .before .before .before .before .before .before .before .before .before .before .before .before .before .before .before .before .before .before .before .before .before .before .pre .1 .1 in
+    let i = c .before .before .before .before .before .before .before .before .before .before .before .before .before .if2 .left in
+    let u = c .before .before .before .before .before .before .before .step .ensures in
+    let m = c .before .before .before .marks .given ∙ trail-plus _ _ _ _ _ _ p (u .next) i .marked in
+    omega (arith, m, i)
 
--- src/listing.rt:54:5
-write-walk-write-walk-requires-2 : (t : ℕ) → write-walk-lts.Need-write-walk-requires-2 (
-  write-end-reads.Asked,
-  write-end-reads.Learnt,
-  write-below-reads.Asked,
-  write-below-reads.Learnt,
-  step-reads.Asked,
-  step-reads.Learnt,
-  write-walk-below t,
-  write-walk.Post,
-) (write-walk-at t) write-walk.Post
-write-walk-write-walk-requires-2 t c κs = search needs
+write-walk-write-walk-requires-2 : (t : ℕ) → write-walk-lts.Need-write-walk-requires-2 (write-walk-claims t) (write-walk-at t) write-walk.Post
+write-walk-write-walk-requires-2 t c κs =
+    let p = c .before .before .before .before .before .before .before .before .before .before .before .before .before .before .before .before .before .before .before .before .before .before .before .before .pre .1 .1 in
+    let i = c .before .before .before .before .before .before .before .before .before .before .before .before .before .before .before .if2 .left in
+    let u = c .before .before .before .before .before .before .before .before .before .step .ensures in
+    let w = c .before .before .before .before .before .before .write-walk .ensures in
+    let m = c .before .before .before .before .before .marks .given ∙ trail-plus _ _ _ _ _ _ p (u .next) i .marked in
+    (omega (arith, c .before .before .before .before .before .before .before .before .before .before .before .before .before .before .before .before .before .before .before .before .before .before .before .before .pre .0, u .next .on, u .next .within), (u .own .inside, trail-level _ _ _ _ _ _ p (u .next) i _ (w .same) m, omega (arith, w .within, c .before .before .before .out3 .given)))
 
--- src/listing.rt:18:1
-write-walk-same-length-3 : (t : ℕ) → write-walk-lts.Need-same-length-3 (
-  write-end-reads.Asked,
-  write-end-reads.Learnt,
-  write-below-reads.Asked,
-  write-below-reads.Learnt,
-  step-reads.Asked,
-  step-reads.Learnt,
-  write-walk-below t,
-  write-walk.Post,
-) (write-walk-at t) write-walk.Post
-write-walk-same-length-3 t c = search needs
+write-walk-same-length-3 : (t : ℕ) → write-walk-lts.Need-same-length-3 (write-walk-claims t) (write-walk-at t) write-walk.Post
+write-walk-same-length-3 t c =
+    let p = c .before .before .before .before .before .before .before .before .before .before .before .before .before .before .before .before .before .before .before .before .before .before .before .before .before .before .before .before .before .pre .1 .1 in
+    let i = c .before .before .before .before .before .before .before .before .before .before .before .before .before .before .before .before .before .before .before .before .if2 .left in
+    let u = c .before .before .before .before .before .before .before .before .before .before .before .before .before .before .step .ensures in
+    let w = c .before .before .before .before .before .before .before .before .before .before .before .write-walk .ensures in
+    let m = c .before .before .before .before .before .before .before .before .before .before .marks .given ∙ trail-plus _ _ _ _ _ _ p (u .next) i .marked in
+    c .before .before .before .marks2 .given ∙ trail-level _ _ _ _ _ _ p (u .next) i _ (w .same) m .marked ∙ sym (p .marked)
 
--- src/listing.rt:18:1
-write-walk-same-length-4 : (t : ℕ) → write-walk-lts.Need-same-length-4 (
-  write-end-reads.Asked,
-  write-end-reads.Learnt,
-  write-below-reads.Asked,
-  write-below-reads.Learnt,
-  step-reads.Asked,
-  step-reads.Learnt,
-  write-walk-below t,
-  write-walk.Post,
-) (write-walk-at t) write-walk.Post
+write-walk-same-length-4 : (t : ℕ) → write-walk-lts.Need-same-length-4 (write-walk-claims t) (write-walk-at t) write-walk.Post
 write-walk-same-length-4 t c = search needs
 
--- src/listing.rt:18:1
-write-walk-returns-4 : (t : ℕ) → write-walk-lts.Need-returns-4 (
-  write-end-reads.Asked,
-  write-end-reads.Learnt,
-  write-below-reads.Asked,
-  write-below-reads.Learnt,
-  step-reads.Asked,
-  step-reads.Learnt,
-  write-walk-below t,
-  write-walk.Post,
-) (write-walk-at t) write-walk.Post
-write-walk-returns-4 t c = search needs
+write-walk-returns-4 : (t : ℕ) → write-walk-lts.Need-returns-4 (write-walk-claims t) (write-walk-at t) write-walk.Post
+write-walk-returns-4 t c =
+    let p = c .before .before .before .before .before .before .before .before .before .before .before .before .before .before .before .before .before .before .before .before .before .before .before .before .before .before .before .before .before .pre .1 .1 in
+    let i = c .before .before .before .before .before .before .before .before .before .before .before .before .before .before .before .before .before .before .before .before .if2 .left in
+    let u = c .before .before .before .before .before .before .before .before .before .before .before .before .before .before .step .ensures in
+    let m = c .before .before .before .before .before .before .before .before .before .before .marks .given ∙ trail-plus _ _ _ _ _ _ p (u .next) i .marked in
+    walked-on _ _ _ _ _ _ _ _ _ _ _ (c .before .before .before .before .before .before .before .before .before .before .before .before .before .before .before .before .before .before .before .before .before .before .before .node .given .1) _ p i
+    _ _ (c .before .before .before .before .before .before .before .before .before .before .before .before .before .before .before .before .out2 .given) (c .before .before .before .before .before .before .before .before .before .before .before .before .before .before .before .before .before .write-below .ensures) _ u
+    _ _ _ m (c .before .before .before .before .before .before .before .before .out3 .given) (c .before .before .before .before .before .before .before .before .before .before .before .write-walk .ensures) _ _ _ (c .before .before .before .before .write-walk2 .ensures)
 
 pub +write-walk-spec : {M : Type 1} → statement M
-+write-walk-spec = close μ-write-walk λ t. write-walk-lts.spec (
-  write-end-reads.Asked,
-  write-end-reads.Learnt,
-  write-below-reads.Asked,
-  write-below-reads.Learnt,
-  step-reads.Asked,
-  step-reads.Learnt,
-  write-walk-below t,
-  write-walk.Post,
-)
++write-walk-spec = close μ-write-walk λ t. write-walk-lts.spec (write-walk-claims t)
     (write-walk-at t)
     write-walk.Post
     (write-walk-enum-known-node t)
