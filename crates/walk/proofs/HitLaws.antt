@@ -1,26 +1,26 @@
 -- Whether a walk would give a record: what each turn answers. Assumes nothing.
-use mathlib.Core.Path.{_≡_, refl, sym, ap, _∙_}
-use mathlib.Core.Bool.{Bool, true, false, cond, _||_}
+use mathlib.Core.Path.{_≡_, refl, sym, _∙_}
+use mathlib.Core.Bool.{Bool, true, false, _||_}
 use mathlib.Core.List.{List, [], _∷_}
 use Prim.Native.Nat.{ℕ, _+_, _-_, _≤_, _<_}
 use native.Mathlib.Omega.{arith}
 use lib.Dec.{ltb}
 use lib.ListN.{length, take, drop}
 use borrow.Author.Tests.{lt-ltb, le-ltb}
-use Rattle.level.specs.Kinds.{dollar}
 use Rattle.level.specs.Levels.{split}
 use Rattle.level.specs.Places.{levelsAt}
 use Rattle.level.proofs.Split.{levels-cons, levels-none}
-use Rattle.topic.specs.Match.{leadDollar}
 use Rattle.held.specs.Order.{Level, Filter}
-use Rattle.held.specs.Forest.{Forest, Hit, miss, hit, hash, plus, kid}
-use Rattle.held.specs.Stream.{someOf, hashHit, walkHit, literalHit, listHit}
+use Rattle.held.specs.Forest.{Forest, miss, hit, hash, plus, kid}
+use Rattle.held.specs.Stream.{someOf, hashHit, walkHit, listHit}
+use Rattle.walk.specs.declared.Start.{Start}
 use Rattle.walk.specs.declared.Node.{Node}
 use Rattle.walk.specs.declared.Node.the-variants.{At, Nothing}
-use Rattle.walk.specs.Nodes.{NodeIs, Kid, Listed, valuesIn}
+use Rattle.walk.specs.Nodes.{Kid, Listed, valuesIn}
 use Rattle.walk.specs.Steps.{NextLevel}
+use Rattle.walk.specs.Starts.{Started}
 use Rattle.walk.specs.Hits.{Hits, HashHits}
-use Rattle.walk.proofs.NodeLaws.{opened, missed, kid-of, top-is}
+use Rattle.walk.proofs.NodeLaws.{opened, missed, kid-of}
 
 -- the turns of `walkHit`
 hit-miss : (ns : Filter) → walkHit {X = ℕ} ns miss ≡ false
@@ -120,25 +120,7 @@ module _ (base : ℕ) (s : List ℕ) (d : ℕ) (name : List ℕ) (from v e p : �
                 (u .is (kid g (o .kids)) (kid-of base s d v e p h o g one x));
           }
 
--- from the top
-module _ (base n : ℕ) (s name : List ℕ) (stop : ℕ) (next : NextLevel name 0 stop) {t : Bool} (meta : t ≡ dollar (take (stop - 0) (drop 0 name))) where
-  lead : leadDollar (split name) ≡ t
-  lead = rw (next .levels) (sym meta)
-
-  list-hit : (u : Bool) → t ≡ u → (F : Forest ℕ) → listHit (split name) F ≡ cond u (literalHit (split name) F) (walkHit (split name) (hit [] F))
-  unfolding listHit
-  list-hit u e F = rw (lead, e)
-
-  literal-hit : (F : Forest ℕ) → literalHit (split name) F ≡ walkHit (levelsAt name (stop + 1)) (kid (take (stop - 0) (drop 0 name)) F)
-  unfolding literalHit
-  literal-hit F = rw (next .levels)
-
-  pub top-hits : t ≡ false → {r : Bool} → Hits base s 0 (At 0 0 n) (levelsAt name 0) r → Listed base s n → r ≡ listHit (split name) (valuesIn base s n)
-  top-hits e {r} h l = h .is (hit [] (valuesIn base s n)) (top-is base n s l) ∙ sym (list-hit false e (valuesIn base s n))
-
-  pub dollar-hits : t ≡ true → {own : Node} → Kid base s 0 0 n (take (stop - 0) (drop 0 name)) own → {r : Bool} → Hits base s 1 own (levelsAt name (stop + 1)) r
-      → Listed base s n → r ≡ listHit (split name) (valuesIn base s n)
-  dollar-hits e {own} k {r} h l =
-      let F : Forest ℕ = valuesIn base s n in
-      h .is (kid (take (stop - 0) (drop 0 name)) F) (k .is F (l .stands) (omega (arith, l .shallow)))
-      ∙ sym (literal-hit F) ∙ sym (list-hit true e F)
+-- from the start
+pub listed-hits : (base n : ℕ) (s name : List ℕ) {t : Start} {r : Bool} → Started base s n name t → Hits base s (t .depth) (t .node) (levelsAt name (t .from)) r
+    → Listed base s n → r ≡ listHit (split name) (valuesIn base s n)
+listed-hits base n s name u h l = let b = u .begun l in h .is (b .at) (b .at-is) ∙ sym (b .hit-is)

@@ -1,34 +1,32 @@
 -- The listing's walk: what each turn writes. Assumes nothing.
 use mathlib.Core.Path.{_≡_, refl, sym, ap, _∙_}
-use mathlib.Core.Bool.{Bool, true, false, cond}
 use mathlib.Core.List.{List, [], _∷_, _++_}
 use Prim.Native.Nat.{ℕ, zero, suc, _+_, _-_, _*_, _≤_, _<_}
-use native.Mathlib.Numerals.{add-one}
 use native.Mathlib.Omega.{arith}
 use lib.ListN.{length, take, drop, set, replicate, length-set, length-replicate}
 use lib.Seq.{take-take, take-set-le}
 use Rattle.lent.specs.Parts.{patch}
-use Rattle.level.specs.Kinds.{dollar}
 use Rattle.level.specs.Levels.{split, width}
-use Rattle.level.specs.Places.{first, levelsAt}
+use Rattle.level.specs.Places.{first}
 use Rattle.level.proofs.Split.{levels-cons, levels-none}
 use Rattle.held.specs.Order.{Level, Filter}
-use Rattle.held.specs.Forest.{Forest, Hit, miss, hit, hash, plus, kid}
-use Rattle.held.specs.Stream.{hashBytes, walkBytes, listBytes}
+use Rattle.held.specs.Forest.{hash, plus, kid}
+use Rattle.held.specs.Stream.{listBytes}
 use Rattle.held.proofs.Equations.{walk-miss, walk-end, walk-on}
 use Rattle.walk.specs.declared.Node.{Node}
 use Rattle.walk.specs.declared.Step.{Step}
+use Rattle.walk.specs.declared.Start.{Start}
 use Rattle.walk.specs.declared.Node.the-variants.{At, Nothing}
 use Rattle.walk.specs.Height.{heightF}
-use Rattle.walk.specs.Nodes.{NodeIs, Kid, Listed, valuesIn}
+use Rattle.walk.specs.Nodes.{Listed, valuesIn}
 use Rattle.walk.specs.Steps.{NextLevel, StepTo}
+use Rattle.walk.specs.Starts.{Started}
 use Rattle.walk.specs.Trails.{taken, pathOf, pathAt, Trail}
-use Rattle.walk.specs.Written.{Wrote, HashRoom, BelowWritten, EndWritten, Walked}
+use Rattle.walk.specs.Written.{HashRoom, BelowWritten, EndWritten, Walked}
 use Rattle.walk.proofs.Heights.{kid-leaf}
-use Rattle.walk.proofs.NodeLaws.{opened, missed, kid-of, top-is}
+use Rattle.walk.proofs.NodeLaws.{opened, missed, kid-of}
 use Rattle.walk.proofs.Widths.{width-next}
-use Rattle.walk.proofs.Trails.{path-next, path-set, here, levels-next, more-levels}
-use Rattle.walk.proofs.SizeLaws.{list-bytes, literal-bytes}
+use Rattle.walk.proofs.Trails.{path-set, here, levels-next, more-levels}
 use Rattle.walk.proofs.RecordLaws.{wrote-none, wrote-then}
 
 -- a trail
@@ -136,59 +134,35 @@ module _ (base : ℕ) (s name marks : List ℕ) (depth from : ℕ) (old : List �
               (wrote-then old o1 o3 at _ _ n1 n3 l1 (b .is (o .kids) (o .holds .stands) (o .holds .shallow)) (wrote-then o1 o2 o3 n1 _ _ n2 n3 l2 y2 y3));
         }
 
--- from the top
-path-top : (marks name : List ℕ) → pathAt marks 0 name ≡ []
+-- from the start, without marks
+path-none : (ls : Filter) (d : ℕ) → d ≤ 1 → pathOf (take d (replicate 128 0)) ls ≡ take d ls
 unfolding pathOf
-path-top marks name = refl
+path-none ls zero h = refl
+path-none [] (suc zero) h = refl
+path-none (l ∷ ls) (suc zero) h = refl
+path-none ls (suc (suc d)) h = absurd (omega arith)
 
-pub trail-top : (name marks : List ℕ) → length name ≤ 65535 → length marks ≡ 128 → Trail name marks 0 0 0
-trail-top name marks h m =
-    record {
-      deep = omega arith;
-      some = omega arith;
-      levels = refl;
-      size-is = ap width (path-top marks name);
-      marked = m;
-      high = omega arith;
-      small = omega arith;
-      short = h;
-    }
+module _ (base n : ℕ) (s name marks : List ℕ) {t : Start} (u : Started base s n name t) (none : marks ≡ replicate 128 0) where
+  path-start : pathAt marks (t .depth) name ≡ take (t .depth) (split name)
+  path-start = rw none (path-none (split name) (t .depth) (u .few))
 
-module _ (name marks : List ℕ) (stop : ℕ) (next : NextLevel name 0 stop) (none : marks ≡ replicate 128 0) where
-  path-first : pathAt marks 1 name ≡ take (stop - 0) (drop 0 name) ∷ []
-  path-first = rw none (path-next (replicate 128 0) 0 (split name) _ _ (omega arith) (here name 0 0 stop refl next) ∙ rw (path-top (replicate 128 0) name))
-
-  pub trail-first : length name ≤ 65535 → Trail name marks 1 (stop + 1) (stop + 1)
-  trail-first h =
+  pub trail-start : length name ≤ 65535 → Trail name marks (t .depth) (t .from) (t .from)
+  trail-start h =
       record {
-        deep = omega arith;
-        some = more-levels name 0 0 stop refl next;
-        levels = levels-next name 0 0 stop refl next;
-        size-is = ap width path-first ∙ omega (arith, next .long);
+        deep = omega (arith, u .few);
+        some = u .some;
+        levels = u .levels;
+        size-is = ap width path-start ∙ u .size-is;
         marked = ap length none ∙ length-replicate {A = ℕ} 128 0;
-        high = omega (arith, next .within);
+        high = u .high;
         small = omega arith;
         short = h;
       }
 
-module _ (base n : ℕ) (s name : List ℕ) (stop : ℕ) (next : NextLevel name 0 stop) {t : Bool} (meta : t ≡ dollar (take (stop - 0) (drop 0 name)))
-    (marks kept old new : List ℕ) (end : ℕ) where
-  abbrev Whole : Type 0
-  Whole = length (listBytes (split name) (valuesIn base s n)) ≤ length old → new ≡ patch 0 (listBytes (split name) (valuesIn base s n)) old
-
-  pub top-listed : t ≡ false → Walked base s (At 0 0 n) name marks kept 0 0 old new 0 end → Listed base s n → Whole
-  top-listed e w l h =
-      let F : Forest ℕ = valuesIn base s n in
-      let b : listBytes (split name) F ≡ walkBytes [] (split name) (hit [] F) = list-bytes base n s name stop next meta false e F in
-      let z = rw (path-top marks name) at (w .is (hit [] F) (top-is base n s l)) in
-      let k = rw b at h in
-      rw b (z .stored (omega (arith, k)))
-
-  pub dollar-listed : t ≡ true → marks ≡ replicate 128 0 → {own : Node} → Kid base s 0 0 n (take (stop - 0) (drop 0 name)) own → Walked base s own name marks kept 1 (stop + 1) old new 0 end → Listed base s n → Whole
-  dollar-listed e none {own} k w l h =
-      let F : Forest ℕ = valuesIn base s n in
-      let g : Level = take (stop - 0) (drop 0 name) in
-      let b : listBytes (split name) F ≡ walkBytes (g ∷ []) (levelsAt name (stop + 1)) (kid g F) = list-bytes base n s name stop next meta true e F ∙ literal-bytes base n s name stop next meta F in
-      let z = rw (path-first name marks stop next none) at (w .is (kid g F) (k .is F (l .stands) (omega (arith, l .shallow)))) in
-      let k = rw b at h in
-      rw b (z .stored (omega (arith, k)))
+  pub listed : (kept old new : List ℕ) (end : ℕ) → Walked base s (t .node) name marks kept (t .depth) (t .from) old new 0 end
+      → Listed base s n → length (listBytes (split name) (valuesIn base s n)) ≤ length old → new ≡ patch 0 (listBytes (split name) (valuesIn base s n)) old
+  listed kept old new end w l h =
+      let b = u .begun l in
+      let z = rw path-start at (w .is (b .at) (b .at-is)) in
+      let k = rw (b .bytes-are) at h in
+      rw (b .bytes-are) (z .stored (omega (arith, k)))

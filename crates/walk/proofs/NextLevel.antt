@@ -1,11 +1,11 @@
 -- The next level of a name, in the words of the code. Assumes nothing.
 use mathlib.Core.Path.{_≡_}
 use mathlib.Core.List.{List}
-use Prim.Native.Nat.{ℕ, _+_, _-_, _≤_, _<_}
+use Prim.Native.Nat.{ℕ, _+_, _-_, _≤_}
 use native.Mathlib.Numerals.{add-one}
 use native.Mathlib.Omega.{arith}
 use lib.ListN.{length, take, drop, length-take, length-drop}
-use Rattle.level.specs.Places.{first, levelsAt, endOf}
+use Rattle.level.specs.Places.{first, endOf}
 use Rattle.level.proofs.Split.{levels-cons, part-first, end-within}
 use Rattle.walk.specs.Steps.{Steps, Sizing, NextLevel}
 
@@ -29,15 +29,3 @@ module _ (name : List ℕ) (from size stop : ℕ) (z : Sizing name from size) (n
 
   pub sizing-level : Sizing name (stop + 1) (size + (stop - from) + 1)
   sizing-level = record { small = omega (arith, z .small, n .on); short = z .short }
-
-pub sizing-top : (name : List ℕ) → length name ≤ 65535 → Sizing name 0 0
-sizing-top name h = record { small = omega arith; short = h }
-
-pub sizing-first : (name : List ℕ) (stop : ℕ) → length name ≤ 65535 → Sizing name (stop + 1) (stop + 1)
-sizing-first name stop h = record { small = omega arith; short = h }
-
-pub steps-top : (name : List ℕ) → Steps name 0 0
-steps-top name = record { low = omega arith; high = omega arith }
-
-pub steps-first : (name : List ℕ) (stop : ℕ) → NextLevel name 0 stop → Steps name 1 (stop + 1)
-steps-first name stop n = record { low = omega arith; high = omega (arith, n .within) }

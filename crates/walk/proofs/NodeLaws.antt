@@ -1,14 +1,12 @@
 -- The child that a search found, as a node of a walk. Assumes nothing.
-use mathlib.Core.Path.{_≡_, refl, sym, ap, _∙_}
-use mathlib.Core.List.{List, []}
-use Prim.Native.Nat.{ℕ, _+_, _*_, _/_, _^_, _≤_, _<_, min}
+use mathlib.Core.Path.{_≡_, refl, sym, _∙_}
+use mathlib.Core.List.{List}
+use Prim.Native.Nat.{ℕ, _+_, _/_, _≤_, min}
 use native.Mathlib.Omega.{arith}
 use lib.ListN.{length}
-use Rattle.lent.proofs.Turns.{part-none}
 use Rattle.held.specs.Order.{Level}
 use Rattle.held.specs.Forest.{Forest, leaf, Hit, miss, hit, kid}
 use Rattle.region.proofs.Instances.{values}
-use Rattle.forest.specs.Places.{unitAt}
 use Rattle.forest.specs.Stands.{rawIn, RawStands}
 use Rattle.forest.proofs.StandsLaws.{fits-fork}
 use Rattle.seek.specs.declared.Child.{Child}
@@ -20,7 +18,7 @@ use Rattle.seek.proofs.Raw.{child-stands}
 use Rattle.walk.specs.declared.Node.{Node}
 use Rattle.walk.specs.declared.Node.the-variants.{At, Nothing}
 use Rattle.walk.specs.Height.{heightF}
-use Rattle.walk.specs.Nodes.{ValuesStand, valuesIn, Listed, NodeIn, Below, NodeHolds, NodeIs, Kid}
+use Rattle.walk.specs.Nodes.{ValuesStand, NodeIn, Below, NodeHolds, NodeIs, Kid}
 use Rattle.walk.proofs.Heights.{kid-height, kid-leaf}
 
 is-miss : (base : ℕ) (s : List ℕ) (d : ℕ) (h : Hit ℕ) → h ≡ miss → NodeIs base s d Nothing h
@@ -58,17 +56,6 @@ module _ (base : ℕ) (s : List ℕ) (d lo hi : ℕ) (g : Level) where
       kid-some b =
           let j : Inside lo hi (ChildAt i e p) = rw is at within in
           record { inside = (omega (arith, at), j .2, omega (arith, j .3, b .within), omega (arith, j .3, b .marks)); is = holds }
-
--- the node above the top row
-pub top-in : (base n : ℕ) (s : List ℕ) → unitAt base n ≤ length s → 64 + n ≤ base → NodeIn base s (At 0 0 n)
-top-in base n s a b = (omega arith, omega arith, a, b)
-
-pub top-below : (base n : ℕ) (s : List ℕ) → unitAt base n ≤ length s → 64 + n ≤ base → Below base s 0 n
-top-below base n s a b = record { low = omega arith; within = a; marks = b }
-
-pub top-is : (base n : ℕ) (s : List ℕ) → Listed base s n → NodeIs base s 0 (At 0 0 n) (hit [] (valuesIn base s n))
-top-is base n s l =
-    record { count = refl; few = omega arith; values = part-none (unitAt base 0) s; small = tt; stands = l .stands; shallow = omega (arith, l .shallow) }
 
 -- a node that was matched
 pub node-below : (base v e p : ℕ) (s : List ℕ) {n : Node} → n ≡ At v e p → NodeIn base s n → Below base s e p

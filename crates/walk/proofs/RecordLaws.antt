@@ -1,8 +1,7 @@
 -- A record, written piece by piece. Assumes nothing.
-use mathlib.Core.Path.{_≡_, refl, sym, ap, _∙_}
-use mathlib.Core.List.{List, [], _∷_, _++_, append-assoc, append-nil}
-use Prim.Native.Nat.{ℕ, zero, suc, _+_, _-_, _*_, _≤_, _<_, min}
-use native.Mathlib.Nat.{add-assoc}
+use mathlib.Core.Path.{_≡_, sym, ap, _∙_}
+use mathlib.Core.List.{List, [], _∷_, _++_, append-nil}
+use Prim.Native.Nat.{ℕ, _+_, _-_, _*_, _≤_, _<_, min}
 use native.Mathlib.Omega.{arith}
 use lib.ListN.{length, take, drop, length-append, length-drop, take-append-drop}
 use lib.Seq.{take-at}
@@ -17,12 +16,11 @@ use Rattle.level.specs.Levels.{join, width}
 use Rattle.held.specs.Order.{Filter}
 use Rattle.held.specs.Bytes.{each}
 use Rattle.held.specs.Subscriptions.{listingRecord}
-use Rattle.held.specs.Forest.{Forest, hash, kid}
+use Rattle.held.specs.Forest.{hash, kid}
 use Rattle.held.specs.Stream.{recordAt, hashBytes}
 use Rattle.walk.specs.declared.Node.{Node}
 use Rattle.walk.specs.declared.Node.the-variants.{At, Nothing}
-use Rattle.walk.specs.Nodes.{NodeIn, NodeHolds, NodeIs, Below, Kid}
-use Rattle.walk.specs.Sizes.{recordSize}
+use Rattle.walk.specs.Nodes.{NodeIn, Below, Kid}
 use Rattle.walk.specs.Trails.{pathAt, wholeText}
 use Rattle.walk.specs.Written.{Wrote, unitValues, Values, RecordRoom, RecordWritten, HashRoom, HashWritten, BelowWritten, EndWritten}
 use Rattle.walk.proofs.NodeLaws.{opened, missed}

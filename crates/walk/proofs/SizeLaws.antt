@@ -1,27 +1,26 @@
 -- What a walk's records take: what each turn adds. Assumes nothing.
 use mathlib.Core.Path.{_≡_, refl, sym, ap, _∙_}
-use mathlib.Core.Bool.{Bool, true, false, cond}
 use mathlib.Core.List.{List, [], _∷_, _++_}
-use Prim.Native.Nat.{ℕ, suc, _+_, _-_, _*_, _≤_, _<_, min}
+use Prim.Native.Nat.{ℕ, _+_, _-_, _*_, _<_, min}
 use native.Mathlib.Omega.{arith}
 use lib.ListN.{length, take, drop, length-append}
-use Rattle.level.specs.Kinds.{dollar}
-use Rattle.level.specs.Levels.{split, join, width}
+use Rattle.level.specs.Levels.{split, join}
 use Rattle.level.specs.Places.{levelsAt}
 use Rattle.level.proofs.Split.{levels-none}
-use Rattle.topic.specs.Match.{leadDollar}
 use Rattle.held.specs.Order.{Level, Filter}
-use Rattle.held.specs.Forest.{Forest, Hit, miss, hit, hash, plus, kid}
-use Rattle.held.specs.Stream.{oneOf, recordAt, hashBytes, hashCount, walkBytes, walkCount, literalBytes, literalCount, listBytes, listCount}
+use Rattle.held.specs.Forest.{Forest, miss, hit, hash, plus, kid}
+use Rattle.held.specs.Stream.{oneOf, recordAt, hashCount, walkCount, listBytes, listCount}
 use Rattle.held.proofs.Equations.{walk-miss, walk-end, walk-on}
 use Rattle.walk.specs.declared.Measured.{Measured}
 use Rattle.walk.specs.declared.Node.{Node}
 use Rattle.walk.specs.declared.Step.{Step}
+use Rattle.walk.specs.declared.Start.{Start}
 use Rattle.walk.specs.declared.Node.the-variants.{At, Nothing}
-use Rattle.walk.specs.Nodes.{NodeIs, Kid, Listed, valuesIn}
-use Rattle.walk.specs.Steps.{NextLevel, StepTo}
+use Rattle.walk.specs.Nodes.{Kid, Listed, valuesIn}
+use Rattle.walk.specs.Steps.{StepTo}
+use Rattle.walk.specs.Starts.{Started}
 use Rattle.walk.specs.Sizes.{capped, nothing, Sized, recordSize, RecordSized, HashSized, Sizes}
-use Rattle.walk.proofs.NodeLaws.{opened, missed, kid-of, top-is}
+use Rattle.walk.proofs.NodeLaws.{opened, missed, kid-of}
 use Rattle.walk.proofs.Widths.{width-next, length-join, length-join-next, length-record}
 
 -- nothing more, and one after the other
@@ -111,39 +110,9 @@ module _ (before : Measured) (base : ℕ) (s : List ℕ) (d size : ℕ) (name : 
             (sized-both _ _ _ _ before a m y1 (sized-both _ _ _ _ a b m y2 y3));
       }
 
--- from the top
-module _ (base n : ℕ) (s name : List ℕ) (stop : ℕ) (next : NextLevel name 0 stop) {t : Bool} (meta : t ≡ dollar (take (stop - 0) (drop 0 name))) where
-  lead : leadDollar (split name) ≡ t
-  lead = rw (next .levels) (sym meta)
-
-  pub list-bytes : (u : Bool) → t ≡ u → (F : Forest ℕ) → listBytes (split name) F ≡ cond u (literalBytes (split name) F) (walkBytes [] (split name) (hit [] F))
-  unfolding listBytes
-  list-bytes u e F = rw (lead, e)
-
-  list-count : (u : Bool) → t ≡ u → (F : Forest ℕ) → listCount (split name) F ≡ cond u (literalCount (split name) F) (walkCount (split name) (hit [] F))
-  unfolding listCount
-  list-count u e F = rw (lead, e)
-
-  pub literal-bytes : (F : Forest ℕ) → literalBytes (split name) F ≡ walkBytes (take (stop - 0) (drop 0 name) ∷ []) (levelsAt name (stop + 1)) (kid (take (stop - 0) (drop 0 name)) F)
-  unfolding literalBytes
-  literal-bytes F = rw (next .levels)
-
-  literal-count : (F : Forest ℕ) → literalCount (split name) F ≡ walkCount (levelsAt name (stop + 1)) (kid (take (stop - 0) (drop 0 name)) F)
-  unfolding literalCount
-  literal-count F = rw (next .levels)
-
-  abbrev Listing : Measured → Type 0
-  Listing m = Sized nothing (length (listBytes (split name) (valuesIn base s n))) (listCount (split name) (valuesIn base s n)) m
-
-  pub top-sizes : t ≡ false → {m : Measured} → Sizes nothing base s 0 (At 0 0 n) 0 (levelsAt name 0) m → Listed base s n → Listing m
-  top-sizes e {m} h l =
-      rw (list-bytes false e (valuesIn base s n), list-count false e (valuesIn base s n))
-      (h .is (hit [] (valuesIn base s n)) (top-is base n s l) [] refl)
-
-  pub dollar-sizes : t ≡ true → {own : Node} → Kid base s 0 0 n (take (stop - 0) (drop 0 name)) own → {m : Measured} → Sizes nothing base s 1 own (stop + 1) (levelsAt name (stop + 1)) m
-      → Listed base s n → Listing m
-  dollar-sizes e {own} k {m} h l =
-      let F : Forest ℕ = valuesIn base s n in
-      let g : Level = take (stop - 0) (drop 0 name) in
-      rw (list-bytes true e F, list-count true e F, literal-bytes F, literal-count F)
-      (h .is (kid g F) (k .is F (l .stands) (omega (arith, l .shallow))) (g ∷ []) (omega (arith, next .long)))
+-- from the start
+pub listed-sizes : (base n : ℕ) (s name : List ℕ) {t : Start} {m : Measured} → Started base s n name t → Sizes nothing base s (t .depth) (t .node) (t .from) (levelsAt name (t .from)) m
+    → Listed base s n → Sized nothing (length (listBytes (split name) (valuesIn base s n))) (listCount (split name) (valuesIn base s n)) m
+listed-sizes base n s name {t} u h l =
+    let b = u .begun l in
+    rw (b .bytes-are, b .count-is) (h .is (b .at) (b .at-is) (take (t .depth) (split name)) (u .size-is))

@@ -1,12 +1,9 @@
 -- The text of a path, level by level. Assumes nothing.
 use mathlib.Core.Path.{_≡_, refl, sym, ap, _∙_}
-use mathlib.Core.Bool.{true, false, cond}
-use mathlib.Core.List.{List, [], _∷_, _++_, append-assoc, append-nil}
-use Prim.Native.Nat.{ℕ, zero, suc, _+_, _-_, _*_, _≤_, _<_}
-use native.Mathlib.Nat.{add-zero, add-assoc}
+use mathlib.Core.List.{List, [], _∷_, _++_}
+use Prim.Native.Nat.{ℕ, _+_, _-_, _≤_, _<_}
 use native.Mathlib.Omega.{arith}
-use lib.Dec.{eqb}
-use lib.ListN.{length, take, drop, set, getD, length-append, length-set}
+use lib.ListN.{length, take, drop, set, getD, length-append}
 use borrow.Author.Tests.{eq-eqb, ne-eqb}
 use Rattle.lent.specs.Parts.{patch}
 use Rattle.lent.specs.Total.{write}
@@ -22,7 +19,7 @@ use Rattle.walk.specs.Steps.{NextLevel}
 use Rattle.walk.specs.Trails.{taken, pathOf, pathAt, slashed, wholeText}
 use Rattle.walk.specs.Written.{WroteLevel}
 use Rattle.walk.proofs.Widths.{width-next}
-use Rattle.walk.proofs.Trails.{slashed-next, length-slashed, length-whole, path-next, width-less, go-on, here, levels-next, more-levels}
+use Rattle.walk.proofs.Trails.{slashed-next, length-slashed, path-next, width-less, go-on, here, levels-next}
 
 -- a level
 taken-none : (m : ℕ) (l : Level) → m ≡ 0 → taken m l ≡ l

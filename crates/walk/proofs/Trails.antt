@@ -1,23 +1,20 @@
 -- The path of a walk: its text, and one level more. Assumes nothing.
 use mathlib.Core.Path.{_≡_, refl, sym, ap, _∙_}
-use mathlib.Core.Bool.{cond}
 use mathlib.Core.Logic.{_⊎_, inl, inr}
-use mathlib.Core.List.{List, [], _∷_, _++_, append-assoc, append-nil}
+use mathlib.Core.List.{List, [], _∷_, _++_, append-assoc}
 use Prim.Native.Nat.{ℕ, zero, suc, _+_, _-_, _≤_, _<_}
-use native.Mathlib.Nat.{add-zero}
 use native.Mathlib.Numerals.{add-one}
 use native.Mathlib.Omega.{arith}
-use lib.ListN.{length, take, drop, set, getD, length-append, length-take, length-drop, length-set}
-use lib.Seq.{take-suc, take-suc-set, take-take, take-at}
+use lib.ListN.{length, take, drop, set, getD, length-append, length-take, length-drop}
+use lib.Seq.{take-suc, take-suc-set, take-at}
 use Rattle.lent.proofs.Anywhere.{lt-or-ge}
 use Rattle.level.specs.Levels.{split, join, width}
 use Rattle.level.specs.Places.{levelsAt}
 use Rattle.level.proofs.Split.{drop-next, drop-end, levels-none}
 use Rattle.held.specs.Order.{Level, Filter}
-use Rattle.held.specs.Forest.{hash, plus}
+use Rattle.held.specs.Forest.{hash}
 use Rattle.walk.specs.Steps.{NextLevel}
-use Rattle.walk.specs.Trails.{taken, pathOf, pathAt, slashed, wholeText, Trail}
-use Rattle.walk.proofs.Widths.{width-next}
+use Rattle.walk.specs.Trails.{taken, pathOf, slashed, wholeText}
 
 -- texts
 pub slashed-next : (p : Filter) (l : Level) → slashed (p ++ l ∷ []) ≡ slashed p ++ (l ++ 47 ∷ [])

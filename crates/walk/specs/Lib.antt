@@ -1,6 +1,7 @@
 pub mod Height
 pub mod Nodes
 pub mod Steps
+pub mod Starts
 pub mod Hits
 pub mod Sizes
 pub mod Trails

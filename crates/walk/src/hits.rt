@@ -60,16 +60,7 @@ pub fn has_match(s: &[u8], base: usize, n: usize, name: &[u8]) -> bool
     requires { ⌜ (unitAt base n ≤ length (now s)) × (64 + n ≤ base) ⌝ }
     ensures { λ r. ⌜ (Listed base (now (s .entry)) n → r ≡ listHit (split (now (name .entry))) (valuesIn base (now (s .entry)) n)) ⌝ }
 {
-    let stop = nodes::level_stop(name, 0);
-    let first = &name[0..stop];
-    if level::is_metadata(first) {
-        let own = nodes::child(s, base, 0, n, 0, first);
-        return hits(s, base, own, 1, name, stop + 1);
-    }
-    let top = Node::At {
-        values: 0,
-        end: 0,
-        past: n,
-    };
-    hits(s, base, top, 0, name, 0)
+    let t = nodes::start(s, base, n, name);
+    let node = t.node;
+    hits(s, base, node, t.depth, name, t.from)
 }

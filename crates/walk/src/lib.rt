@@ -23,6 +23,13 @@ pub enum Node {
     Nothing,
 }
 
+// Where a listing's walk begins: a node, its depth, and where in the name the level below it begins.
+struct Start {
+    node: Node,
+    depth: usize,
+    from: usize,
+}
+
 // Where a walk goes on: to the child '+', and to the child with the name's level, which ends at `stop`.
 struct Step {
     any: Node,

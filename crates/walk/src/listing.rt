@@ -73,28 +73,18 @@ pub fn write_all(s: &[u8], base: usize, n: usize, name: &[u8], out: &mut [u8])
         → now (out .exit) ≡ patch 0 (listBytes (split (now (name .entry))) (valuesIn base (now (s .entry)) n)) (now (out .entry))) ⌝ }
 {
     let mut marks: [u8; 128] = [0; 128];
-    let stop = nodes::level_stop(name, 0);
-    let first = &name[0..stop];
-    if level::is_metadata(first) {
-        let own = nodes::child(s, base, 0, n, 0, first);
-        write_walk(
-            s,
-            base,
-            own,
-            1,
-            name,
-            stop + 1,
-            stop + 1,
-            &mut marks,
-            out,
-            0,
-        );
-        return;
-    }
-    let top = Node::At {
-        values: 0,
-        end: 0,
-        past: n,
-    };
-    write_walk(s, base, top, 0, name, 0, 0, &mut marks, out, 0);
+    let t = nodes::start(s, base, n, name);
+    let node = t.node;
+    write_walk(
+        s,
+        base,
+        node,
+        t.depth,
+        name,
+        t.from,
+        t.from,
+        &mut marks,
+        out,
+        0,
+    );
 }

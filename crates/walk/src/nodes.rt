@@ -1,11 +1,14 @@
 // The children of a node that a walk takes.
 ghost use mathlib.Core.Path.{_≡_};
 ghost use mathlib.Core.List.{[], _∷_};
-ghost use Prim.Native.Nat.{_≤_, min};
+ghost use Prim.Native.Nat.{_+_, _≤_, min};
 ghost use lib.ListN.{length};
+ghost use Rattle.forest.specs.Places.{unitAt};
 ghost use Rattle.walk.specs.Nodes.{Below, Kid};
 ghost use Rattle.walk.specs.Steps.{NextLevel, StepTo};
+ghost use Rattle.walk.specs.Starts.{Started};
 use crate::Node;
+use crate::Start;
 use crate::Step;
 use seek::Child;
 
@@ -78,5 +81,31 @@ pub fn step(
         any: plus(s, base, lo, hi, depth),
         own: child(s, base, lo, hi, depth, &name[from..stop]),
         stop,
+    }
+}
+
+// Where the walk for a name begins, in the units from 0 up to n: above the top row, or at the child with the name's first level
+// where that begins with '$'.
+pub fn start(s: &[u8], base: usize, n: usize, name: &[u8]) -> Start
+    requires { ⌜ (unitAt base n ≤ length (now s)) × (64 + n ≤ base) ⌝ }
+    ensures { λ r. ⌜ Started base (now (s .entry)) n (now (name .entry)) r ⌝ }
+{
+    let stop = level_stop(name, 0);
+    let first = &name[0..stop];
+    if level::is_metadata(first) {
+        return Start {
+            node: child(s, base, 0, n, 0, first),
+            depth: 1,
+            from: stop + 1,
+        };
+    }
+    Start {
+        node: Node::At {
+            values: 0,
+            end: 0,
+            past: n,
+        },
+        depth: 0,
+        from: 0,
     }
 }

@@ -115,16 +115,7 @@ pub fn measure(s: &[u8], base: usize, n: usize, name: &[u8]) -> Measured
         bytes: 0,
         records: 0,
     };
-    let stop = nodes::level_stop(name, 0);
-    let first = &name[0..stop];
-    if level::is_metadata(first) {
-        let own = nodes::child(s, base, 0, n, 0, first);
-        return sizes(none, s, base, own, 1, name, stop + 1, stop + 1);
-    }
-    let top = Node::At {
-        values: 0,
-        end: 0,
-        past: n,
-    };
-    sizes(none, s, base, top, 0, name, 0, 0)
+    let t = nodes::start(s, base, n, name);
+    let node = t.node;
+    sizes(none, s, base, node, t.depth, name, t.from, t.from)
 }
