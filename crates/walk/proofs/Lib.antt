@@ -5,8 +5,3 @@ pub mod StartLaws
 pub mod HitLaws
 pub mod Widths
 pub mod SizeLaws
-pub mod Trails
-pub mod TextLaws
-pub mod ValueLaws
-pub mod RecordLaws
-pub mod ListingLaws

@@ -4,5 +4,3 @@ pub mod Steps
 pub mod Starts
 pub mod Hits
 pub mod Sizes
-pub mod Trails
-pub mod Written

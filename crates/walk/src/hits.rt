@@ -34,7 +34,7 @@ fn hits(s: &[u8], base: usize, node: Node, depth: usize, name: &[u8], from: usiz
     let Node::At { values, end, past } = node else {
         return false;
     };
-    let all = nodes::hash(s, base, end, past, depth);
+    let all = nodes::hash_child(s, base, end, past, depth);
     if name.len() < from {
         if values < end {
             return true;
@@ -47,7 +47,7 @@ fn hits(s: &[u8], base: usize, node: Node, depth: usize, name: &[u8], from: usiz
     let stop = nodes::level_stop(name, from);
     let below = depth + 1;
     let next = stop + 1;
-    let any = nodes::plus(s, base, end, past, depth);
+    let any = nodes::plus_child(s, base, end, past, depth);
     if hits(s, base, any, below, name, next) {
         return true;
     }
@@ -60,7 +60,7 @@ pub fn has_match(s: &[u8], base: usize, n: usize, name: &[u8]) -> bool
     requires { ⌜ (unitAt base n ≤ length (now s)) × (64 + n ≤ base) ⌝ }
     ensures { λ r. ⌜ (Listed base (now (s .entry)) n → r ≡ listHit (split (now (name .entry))) (valuesIn base (now (s .entry)) n)) ⌝ }
 {
-    let t = nodes::start(s, base, n, name);
+    let t = nodes::begin(s, base, n, name);
     let node = t.node;
     hits(s, base, node, t.depth, name, t.from)
 }

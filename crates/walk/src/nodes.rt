@@ -41,14 +41,14 @@ pub fn child(s: &[u8], base: usize, lo: usize, hi: usize, depth: usize, level: &
     }
 }
 
-pub fn hash(s: &[u8], base: usize, lo: usize, hi: usize, depth: usize) -> Node
+pub fn hash_child(s: &[u8], base: usize, lo: usize, hi: usize, depth: usize) -> Node
     requires { ⌜ Below base (now s) lo hi ⌝ }
     ensures { λ v. ⌜ Kid base (now (s .entry)) depth lo hi (35 ∷ []) v ⌝ }
 {
     child(s, base, lo, hi, depth, b"#")
 }
 
-pub fn plus(s: &[u8], base: usize, lo: usize, hi: usize, depth: usize) -> Node
+pub fn plus_child(s: &[u8], base: usize, lo: usize, hi: usize, depth: usize) -> Node
     requires { ⌜ Below base (now s) lo hi ⌝ }
     ensures { λ v. ⌜ Kid base (now (s .entry)) depth lo hi (43 ∷ []) v ⌝ }
 {
@@ -64,7 +64,7 @@ pub fn level_stop(name: &[u8], from: usize) -> usize
 }
 
 // The children of a node at a depth that a walk goes on to, with the level of the name that begins at a place.
-pub fn step(
+pub fn go_on(
     s: &[u8],
     base: usize,
     lo: usize,
@@ -78,7 +78,7 @@ pub fn step(
 {
     let stop = level_stop(name, from);
     Step {
-        any: plus(s, base, lo, hi, depth),
+        any: plus_child(s, base, lo, hi, depth),
         own: child(s, base, lo, hi, depth, &name[from..stop]),
         stop,
     }
@@ -86,7 +86,7 @@ pub fn step(
 
 // Where the walk for a name begins, in the units from 0 up to n: above the top row, or at the child with the name's first level
 // where that begins with '$'.
-pub fn start(s: &[u8], base: usize, n: usize, name: &[u8]) -> Start
+pub fn begin(s: &[u8], base: usize, n: usize, name: &[u8]) -> Start
     requires { ⌜ (unitAt base n ≤ length (now s)) × (64 + n ≤ base) ⌝ }
     ensures { λ r. ⌜ Started base (now (s .entry)) n (now (name .entry)) r ⌝ }
 {

@@ -22,7 +22,7 @@ fn sum(a: usize, b: usize) -> usize
 }
 
 // How many values stand in the units from values up to end. A row has no more than its head can say.
-pub fn count(values: usize, end: usize) -> usize
+pub fn value_count(values: usize, end: usize) -> usize
     ensures { λ r. ⌜ r ≡ min (end - values) 65535 ⌝ }
 {
     if end <= values {
@@ -44,7 +44,7 @@ fn record_size(before: Measured, values: usize, end: usize, text: usize) -> Meas
     requires { ⌜ text ≤ 4294967296 ⌝ }
     ensures { λ r. ⌜ RecordSized before values end text r ⌝ }
 {
-    let n = count(values, end);
+    let n = value_count(values, end);
     if n == 0 {
         return before;
     }
@@ -89,13 +89,13 @@ fn sizes(
     let Node::At { values, end, past } = node else {
         return before;
     };
-    let all = nodes::hash(s, base, end, past, depth);
+    let all = nodes::hash_child(s, base, end, past, depth);
     if name.len() < from {
         let with_own = record_size(before, values, end, own_text(size));
         return hash_size(with_own, all, size);
     }
     let with_all = hash_size(before, all, size);
-    let t = nodes::step(s, base, end, past, depth, name, from);
+    let t = nodes::go_on(s, base, end, past, depth, name, from);
     let any = t.any;
     let own = t.own;
     let stop = t.stop;
@@ -115,7 +115,7 @@ pub fn measure(s: &[u8], base: usize, n: usize, name: &[u8]) -> Measured
         bytes: 0,
         records: 0,
     };
-    let t = nodes::start(s, base, n, name);
+    let t = nodes::begin(s, base, n, name);
     let node = t.node;
     sizes(none, s, base, node, t.depth, name, t.from, t.from)
 }

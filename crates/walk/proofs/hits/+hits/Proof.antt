@@ -12,9 +12,9 @@ use Rattle.walk.proofs.hits.hits.Kinds as hits-kinds
 use Rattle.walk.proofs.hits.+hits.Lts-hits as hits-lts
 use Rattle.walk.proofs.hits.has_values.Reads as has-values-reads
 use Rattle.walk.proofs.nodes.child.Reads as child-reads
-use Rattle.walk.proofs.nodes.hash.Reads as hash-reads
+use Rattle.walk.proofs.nodes.hash_child.Reads as hash-child-reads
 use Rattle.walk.proofs.nodes.level_stop.Reads as level-stop-reads
-use Rattle.walk.proofs.nodes.plus.Reads as plus-reads
+use Rattle.walk.proofs.nodes.plus_child.Reads as plus-child-reads
 use Rattle.walk.proofs.hits.+hits.{statement}
 use Rattle.walk.proofs.hits.+hits.Tie.{close}
 
@@ -28,7 +28,7 @@ abbrev hits-below : ℕ → In 2 hits-kinds.ps
 hits-below t = and 2 hits-kinds.ps (falls 2 hits-kinds.ps _<_ μ-hits t) hits.Pre
 
 abbrev hits-claims : ℕ → hits-lts.Claims
-hits-claims t = (hash-reads.Asked, hash-reads.Learnt, has-values-reads.Asked, has-values-reads.Learnt, level-stop-reads.Asked, level-stop-reads.Learnt, plus-reads.Asked, plus-reads.Learnt, hits-below t, hits.Post, child-reads.Asked, child-reads.Learnt)
+hits-claims t = (hash-child-reads.Asked, hash-child-reads.Learnt, has-values-reads.Asked, has-values-reads.Learnt, level-stop-reads.Asked, level-stop-reads.Learnt, plus-child-reads.Asked, plus-child-reads.Learnt, hits-below t, hits.Post, child-reads.Asked, child-reads.Learnt)
 
 hits-enum-known-node : (t : ℕ) → hits-lts.Need-enum-known-node (hits-claims t) (hits-at t) hits.Post
 hits-enum-known-node t c = search needs
@@ -39,7 +39,7 @@ hits-enum-told t c = search needs
 hits-returns : (t : ℕ) → hits-lts.Need-returns (hits-claims t) (hits-at t) hits.Post
 hits-returns t c = search (needs, no-node)
 
-hits-hash-requires : (t : ℕ) → hits-lts.Need-hash-requires (hits-claims t) (hits-at t) hits.Post
+hits-hash-requires : (t : ℕ) → hits-lts.Need-hash-child-requires (hits-claims t) (hits-at t) hits.Post
 hits-hash-requires t c κs = search (needs, node-below)
 
 hits-returns-2 : (t : ℕ) → hits-lts.Need-returns-2 (hits-claims t) (hits-at t) hits.Post
@@ -66,7 +66,7 @@ hits-add-below t c = search needs
 hits-add-next : (t : ℕ) → hits-lts.Need-add-next (hits-claims t) (hits-at t) hits.Post
 hits-add-next t c = search needs
 
-hits-plus-requires : (t : ℕ) → hits-lts.Need-plus-requires (hits-claims t) (hits-at t) hits.Post
+hits-plus-requires : (t : ℕ) → hits-lts.Need-plus-child-requires (hits-claims t) (hits-at t) hits.Post
 hits-plus-requires t c κs = search (needs, node-below)
 
 hits-hits-requires : (t : ℕ) → hits-lts.Need-hits-requires (hits-claims t) (hits-at t) hits.Post

@@ -4,7 +4,7 @@ use Rattle.walk.proofs.HitLaws.{listed-hits}
 use Rattle.walk.proofs.hits.has_match.Statement.{statement}
 use Rattle.walk.proofs.hits.has_match.Tie as tie
 
-start-requires : tie.Need-start-requires
+start-requires : tie.Need-begin-requires
 start-requires c κs = search needs
 
 hits-requires : tie.Need-hits-requires

@@ -11,8 +11,8 @@ use borrow.Fn.PlainCycle.{Measures, is, falls, and}
 use Rattle.walk.proofs.sizes.sizes.Reads as sizes
 use Rattle.walk.proofs.sizes.sizes.Kinds as sizes-kinds
 use Rattle.walk.proofs.sizes.+sizes.Lts-sizes as sizes-lts
-use Rattle.walk.proofs.nodes.hash.Reads as hash-reads
-use Rattle.walk.proofs.nodes.step.Reads as step-reads
+use Rattle.walk.proofs.nodes.hash_child.Reads as hash-child-reads
+use Rattle.walk.proofs.nodes.go_on.Reads as go-on-reads
 use Rattle.walk.proofs.sizes.hash_size.Reads as hash-size-reads
 use Rattle.walk.proofs.sizes.own_text.Reads as own-text-reads
 use Rattle.walk.proofs.sizes.record_size.Reads as record-size-reads
@@ -29,7 +29,7 @@ abbrev sizes-below : ℕ → In 2 sizes-kinds.ps
 sizes-below t = and 2 sizes-kinds.ps (falls 2 sizes-kinds.ps _<_ μ-sizes t) sizes.Pre
 
 abbrev sizes-claims : ℕ → sizes-lts.Claims
-sizes-claims t = (hash-reads.Asked, hash-reads.Learnt, own-text-reads.Asked, own-text-reads.Learnt, record-size-reads.Asked, record-size-reads.Learnt, hash-size-reads.Asked, hash-size-reads.Learnt, step-reads.Asked, step-reads.Learnt, sizes-below t, sizes.Post)
+sizes-claims t = (hash-child-reads.Asked, hash-child-reads.Learnt, own-text-reads.Asked, own-text-reads.Learnt, record-size-reads.Asked, record-size-reads.Learnt, hash-size-reads.Asked, hash-size-reads.Learnt, go-on-reads.Asked, go-on-reads.Learnt, sizes-below t, sizes.Post)
 
 sizes-enum-known-node : (t : ℕ) → sizes-lts.Need-enum-known-node (sizes-claims t) (sizes-at t) sizes.Post
 sizes-enum-known-node t c = search needs
@@ -40,7 +40,7 @@ sizes-enum-told t c = search needs
 sizes-returns : (t : ℕ) → sizes-lts.Need-returns (sizes-claims t) (sizes-at t) sizes.Post
 sizes-returns t c = search (needs, no-sizes)
 
-sizes-hash-requires : (t : ℕ) → sizes-lts.Need-hash-requires (sizes-claims t) (sizes-at t) sizes.Post
+sizes-hash-requires : (t : ℕ) → sizes-lts.Need-hash-child-requires (sizes-claims t) (sizes-at t) sizes.Post
 sizes-hash-requires t c κs = search (needs, node-below)
 
 sizes-own-text-requires : (t : ℕ) → sizes-lts.Need-own-text-requires (sizes-claims t) (sizes-at t) sizes.Post
@@ -58,7 +58,7 @@ sizes-returns-2 t c = search (needs, sizes-end)
 sizes-hash-size-requires-2 : (t : ℕ) → sizes-lts.Need-hash-size-requires-2 (sizes-claims t) (sizes-at t) sizes.Post
 sizes-hash-size-requires-2 t c κs = search needs
 
-sizes-step-requires : (t : ℕ) → sizes-lts.Need-step-requires (sizes-claims t) (sizes-at t) sizes.Post
+sizes-step-requires : (t : ℕ) → sizes-lts.Need-go-on-requires (sizes-claims t) (sizes-at t) sizes.Post
 sizes-step-requires t c κs = search (needs, node-below)
 
 sizes-add-below : (t : ℕ) → sizes-lts.Need-add-below (sizes-claims t) (sizes-at t) sizes.Post
@@ -85,7 +85,7 @@ sizes-sizes-requires t c κs = (search needs, (search needs, search (needs, step
 sizes-sizes-requires-2 : (t : ℕ) → sizes-lts.Need-sizes-requires-2 (sizes-claims t) (sizes-at t) sizes.Post
 sizes-sizes-requires-2 t c κs =
     let p = c .before .before .before .before .before .before .before .before .before .before .pre in
-    let u = c .before .step .ensures in
+    let u = c .before .go-on .ensures in
     (omega (arith, p .0, u .next .on, u .next .within), (u .own .inside, steps-next _ _ _ _ (p .1 .1) (u .next), sizing-level _ _ _ _ (p .1 .2) (u .next)))
 
 sizes-returns-3 : (t : ℕ) → sizes-lts.Need-returns-3 (sizes-claims t) (sizes-at t) sizes.Post

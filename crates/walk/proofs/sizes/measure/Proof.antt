@@ -4,7 +4,7 @@ use Rattle.walk.proofs.SizeLaws.{listed-sizes}
 use Rattle.walk.proofs.sizes.measure.Statement.{statement}
 use Rattle.walk.proofs.sizes.measure.Tie as tie
 
-start-requires : tie.Need-start-requires
+start-requires : tie.Need-begin-requires
 start-requires c κs = search needs
 
 sizes-requires : tie.Need-sizes-requires

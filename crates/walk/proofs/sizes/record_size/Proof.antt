@@ -4,7 +4,7 @@ use Rattle.walk.proofs.SizeLaws.{record-none, record-some}
 use Rattle.walk.proofs.sizes.record_size.Statement.{statement}
 use Rattle.walk.proofs.sizes.record_size.Tie as tie
 
-count-requires : tie.Need-count-requires
+count-requires : tie.Need-value-count-requires
 count-requires c κs = search needs
 
 returns : tie.Need-returns
