@@ -5,3 +5,4 @@ pub mod StartLaws
 pub mod HitLaws
 pub mod Widths
 pub mod SizeLaws
+pub mod Small

@@ -65,16 +65,16 @@ pub hash-none : (b : Measured) (size : ℕ) {n : Node} → n ≡ Nothing → Has
 hash-none b size {n} is = record { is = λ base s d h i p w. rw (missed base s d n h is i) (sized-none b) }
 
 -- the turns of `walkCount`
-count-miss : (ns : Filter) → walkCount {X = ℕ} ns miss ≡ 0
+pub count-miss : (ns : Filter) → walkCount {X = ℕ} ns miss ≡ 0
 unfolding walkCount
 count-miss [] = refl
 count-miss (n ∷ ns) = refl
 
-count-end : (v : List ℕ) (k : Forest ℕ) → walkCount [] (hit v k) ≡ oneOf v + hashCount (kid hash k)
+pub count-end : (v : List ℕ) (k : Forest ℕ) → walkCount [] (hit v k) ≡ oneOf v + hashCount (kid hash k)
 unfolding walkCount
 count-end v k = refl
 
-count-on : (n : Level) (ns : Filter) (v : List ℕ) (k : Forest ℕ) → walkCount (n ∷ ns) (hit v k) ≡ hashCount (kid hash k) + (walkCount ns (kid plus k) + walkCount ns (kid n k))
+pub count-on : (n : Level) (ns : Filter) (v : List ℕ) (k : Forest ℕ) → walkCount (n ∷ ns) (hit v k) ≡ hashCount (kid hash k) + (walkCount ns (kid plus k) + walkCount ns (kid n k))
 unfolding walkCount
 count-on n ns v k = refl
 
