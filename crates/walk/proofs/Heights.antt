@@ -10,7 +10,7 @@ use Rattle.held.specs.Forest.{Forest, leaf, fork, Hit, miss, hit, kid}
 use Rattle.walk.specs.Height.{heightF}
 
 module _ {X : Type 0} where
-  height-fork : (t : Level) (v : List X) (k n : Forest X) → heightF (fork t v k n) ≡ max (suc (heightF k)) (heightF n)
+  pub height-fork : (t : Level) (v : List X) (k n : Forest X) → heightF (fork t v k n) ≡ max (suc (heightF k)) (heightF n)
   unfolding heightF
   height-fork t v k n = refl
 

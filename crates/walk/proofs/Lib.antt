@@ -1,4 +1,5 @@
 pub mod Heights
+pub mod HeldHeights
 pub mod NodeLaws
 pub mod NextLevel
 pub mod StartLaws
