@@ -7,7 +7,7 @@ use lib.ListN.{length, take, drop, set, replicate, length-set, length-replicate}
 use lib.Seq.{take-take, take-set-le}
 use Rattle.lent.specs.Parts.{patch}
 use Rattle.level.specs.Levels.{split, width}
-use Rattle.level.specs.Places.{first}
+use Rattle.level.specs.Places.{first, levelsAt, endOf}
 use Rattle.level.proofs.Split.{levels-cons, levels-none}
 use Rattle.held.specs.Order.{Level, Filter}
 use Rattle.held.specs.Forest.{hash, plus, kid}
@@ -107,7 +107,10 @@ module _ (base : ℕ) (s name marks : List ℕ) (depth from : ℕ) (old : List �
           is = λ h i.
               let o = opened base s depth v e q n h is i in
               let z : heightF (o .kids) ≤ 0 = omega (arith, o .holds .shallow, deep) in
-              rw (levels-cons name from more, o .is, walk-on, kid-leaf hash (o .kids) z, kid-leaf plus (o .kids) z, kid-leaf (first (drop from name)) (o .kids) z, walk-miss, walk-miss) (wrote-none old at);
+              let g : Level = first (drop from name) in
+              let p : Filter = pathAt marks depth name in
+              let ns : Filter = levelsAt name (suc (endOf name from)) in
+              rw (levels-cons name from more, o .is, walk-on, kid-leaf hash (o .kids) z, kid-leaf plus (o .kids) z, kid-leaf g (o .kids) z, walk-miss (p ++ plus ∷ []) ns, walk-miss (p ++ g ∷ []) ns) (wrote-none old at);
         }
 
     pub walked-on : (size : ℕ) → Trail name marks depth from size → depth < 128

@@ -33,5 +33,5 @@ pub length-record : (p : Filter) (own : List ℕ) → length (recordAt p own) �
 unfolding listingRecord
 length-record p [] = refl
 length-record p (x ∷ own) =
-    rw (length-append (bytes 2 (length (join p))), length-append (join p), length-append (bytes 2 (length (x ∷ own))), length-bytes, length-bytes)
+    rw (length-append (bytes 2 (length (join p))), length-append (join p), length-append (bytes 2 (length (x ∷ own))), length-bytes 2 (length (join p)), length-bytes 2 (length (x ∷ own)))
     (omega (arith, length-each (x ∷ own)))

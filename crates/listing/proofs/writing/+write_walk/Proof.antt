@@ -87,42 +87,55 @@ write-walk-write-walk-requires t c κs = (search needs, (search needs, search (n
 
 write-walk-slice-write-marks-2 : (t : ℕ) → write-walk-lts.Need-slice-write-marks-2 (write-walk-claims t) (write-walk-at t) write-walk.Post
 write-walk-slice-write-marks-2 t c =
-    let p = c .before .before .before .before .before .before .before .before .before .before .before .before .before .before .before .before .before .before .before .before .before .before .pre .1 .1 in
-    let i = c .before .before .before .before .before .before .before .before .before .before .before .before .before .if2 .left in
-    let u = c .before .before .before .before .before .before .before .go-on .ensures in
-    let m = c .before .before .before .marks .given ∙ trail-plus _ _ _ _ _ _ p (u .next) i .marked in
+    let walked = c .before .before .before .before in
+    let stepped = walked .before .before .before in
+    let tested = stepped .before .before .before .before .before .before in
+    let p = tested .before .before .before .before .before .before .before .before .before .pre in
+    let i = tested .if2 .left in
+    let u = stepped .go-on .ensures in
+    let m = c .before .before .before .marks .given ∙ trail-plus _ _ _ _ _ _ (p .1 .1) (u .next) i .marked in
     omega (arith, m, i)
 
 write-walk-write-walk-requires-2 : (t : ℕ) → write-walk-lts.Need-write-walk-requires-2 (write-walk-claims t) (write-walk-at t) write-walk.Post
 write-walk-write-walk-requires-2 t c κs =
-    let p = c .before .before .before .before .before .before .before .before .before .before .before .before .before .before .before .before .before .before .before .before .before .before .before .before .pre .1 .1 in
-    let i = c .before .before .before .before .before .before .before .before .before .before .before .before .before .before .before .if2 .left in
-    let u = c .before .before .before .before .before .before .before .before .before .go-on .ensures in
-    let w = c .before .before .before .before .before .before .write-walk .ensures in
-    let m = c .before .before .before .before .before .marks .given ∙ trail-plus _ _ _ _ _ _ p (u .next) i .marked in
-    (omega (arith, c .before .before .before .before .before .before .before .before .before .before .before .before .before .before .before .before .before .before .before .before .before .before .before .before .pre .0, u .next .on, u .next .within), (u .own .inside, trail-level _ _ _ _ _ _ p (u .next) i _ (w .same) m, omega (arith, w .within, c .before .before .before .out3 .given)))
+    let walked = c .before .before .before .before .before .before in
+    let stepped = walked .before .before .before in
+    let tested = stepped .before .before .before .before .before .before in
+    let p = tested .before .before .before .before .before .before .before .before .before .pre in
+    let i = tested .if2 .left in
+    let u = stepped .go-on .ensures in
+    let w = walked .write-walk .ensures in
+    let m = c .before .before .before .before .before .marks .given ∙ trail-plus _ _ _ _ _ _ (p .1 .1) (u .next) i .marked in
+    (omega (arith, p .0, u .next .on, u .next .within), (u .own .inside, trail-level _ _ _ _ _ _ (p .1 .1) (u .next) i _ (w .same) m, omega (arith, w .within, c .before .before .before .out3 .given)))
 
 write-walk-same-length-3 : (t : ℕ) → write-walk-lts.Need-same-length-3 (write-walk-claims t) (write-walk-at t) write-walk.Post
 write-walk-same-length-3 t c =
-    let p = c .before .before .before .before .before .before .before .before .before .before .before .before .before .before .before .before .before .before .before .before .before .before .before .before .before .before .before .before .before .pre .1 .1 in
-    let i = c .before .before .before .before .before .before .before .before .before .before .before .before .before .before .before .before .before .before .before .before .if2 .left in
-    let u = c .before .before .before .before .before .before .before .before .before .before .before .before .before .before .go-on .ensures in
-    let w = c .before .before .before .before .before .before .before .before .before .before .before .write-walk .ensures in
-    let m = c .before .before .before .before .before .before .before .before .before .before .marks .given ∙ trail-plus _ _ _ _ _ _ p (u .next) i .marked in
-    c .before .before .before .marks2 .given ∙ trail-level _ _ _ _ _ _ p (u .next) i _ (w .same) m .marked ∙ sym (p .marked)
+    let walked = c .before .before .before .before .before .before .before .before .before .before .before in
+    let stepped = walked .before .before .before in
+    let tested = stepped .before .before .before .before .before .before in
+    let p = tested .before .before .before .before .before .before .before .before .before .pre in
+    let i = tested .if2 .left in
+    let u = stepped .go-on .ensures in
+    let m = c .before .before .before .before .before .before .before .before .before .before .marks .given ∙ trail-plus _ _ _ _ _ _ (p .1 .1) (u .next) i .marked in
+    c .before .before .before .marks2 .given ∙ trail-level _ _ _ _ _ _ (p .1 .1) (u .next) i _ (walked .write-walk .ensures .same) m .marked ∙ sym (p .1 .1 .marked)
 
 write-walk-same-length-4 : (t : ℕ) → write-walk-lts.Need-same-length-4 (write-walk-claims t) (write-walk-at t) write-walk.Post
 write-walk-same-length-4 t c = search needs
 
 write-walk-returns-4 : (t : ℕ) → write-walk-lts.Need-returns-4 (write-walk-claims t) (write-walk-at t) write-walk.Post
 write-walk-returns-4 t c =
-    let p = c .before .before .before .before .before .before .before .before .before .before .before .before .before .before .before .before .before .before .before .before .before .before .before .before .before .before .before .before .before .pre .1 .1 in
-    let i = c .before .before .before .before .before .before .before .before .before .before .before .before .before .before .before .before .before .before .before .before .if2 .left in
-    let u = c .before .before .before .before .before .before .before .before .before .before .before .before .before .before .go-on .ensures in
-    let m = c .before .before .before .before .before .before .before .before .before .before .marks .given ∙ trail-plus _ _ _ _ _ _ p (u .next) i .marked in
-    walked-on _ _ _ _ _ _ _ _ _ _ _ (c .before .before .before .before .before .before .before .before .before .before .before .before .before .before .before .before .before .before .before .before .before .before .before .node .given .1) _ p i
-    _ _ (c .before .before .before .before .before .before .before .before .before .before .before .before .before .before .before .before .out2 .given) (c .before .before .before .before .before .before .before .before .before .before .before .before .before .before .before .before .before .write-below .ensures) _ u
-    _ _ _ m (c .before .before .before .before .before .before .before .before .out3 .given) (c .before .before .before .before .before .before .before .before .before .before .before .write-walk .ensures) _ _ _ (c .before .before .before .before .write-walk2 .ensures)
+    let walked = c .before .before .before .before .before .before .before .before .before .before .before in
+    let stepped = walked .before .before .before in
+    let tested = stepped .before .before .before .before .before .before in
+    let p = tested .before .before .before .before .before .before .before .before .before .pre in
+    let i = tested .if2 .left in
+    let u = stepped .go-on .ensures in
+    let named = stepped .before .before .before in
+    let again = c .before .before .before .before in
+    let m = again .before .before .before .before .before .before .marks .given ∙ trail-plus _ _ _ _ _ _ (p .1 .1) (u .next) i .marked in
+    walked-on _ _ _ _ _ _ _ _ _ _ _ (tested .before .before .before .node .given .1) _ (p .1 .1) i
+    _ _ (stepped .before .before .out2 .given) (named .write-below .ensures) _ u
+    _ _ _ m (again .before .before .before .before .out3 .given) (walked .write-walk .ensures) _ _ _ (again .write-walk2 .ensures)
 
 pub +write-walk-spec : {M : Type 1} → statement M
 +write-walk-spec = close μ-write-walk λ t. write-walk-lts.spec (write-walk-claims t)
