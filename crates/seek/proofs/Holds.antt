@@ -19,7 +19,7 @@ use Rattle.forest.proofs.StandsLaws.{fork-units}
 use Rattle.seek.proofs.Parted.{front-part, back-part}
 
 module _ {X : Type 0} (u : Form X) where
-  each-at : (v : List X) (j : ℕ) (x : X) → j < length v → part (j * 16) 16 (each (u .write) v) ≡ u .write (getD v j x)
+  pub each-at : (v : List X) (j : ℕ) (x : X) → j < length v → part (j * 16) 16 (each (u .write) v) ≡ u .write (getD v j x)
   unfolding part
   each-at [] j x h = absurd (omega arith)
   each-at (y ∷ v) zero x h = take-at (u .write y) (each (u .write) v) 16 (u .long y)

@@ -1,0 +1,5 @@
+pub mod Trails
+pub mod TextLaws
+pub mod ValueLaws
+pub mod RecordLaws
+pub mod ListingLaws

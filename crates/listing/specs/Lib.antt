@@ -1,0 +1,2 @@
+pub mod Trails
+pub mod Written
