@@ -59,12 +59,12 @@ module _ {X : Type 0} where
   downs-none [] z at = refl
   downs-none (f ∷ w) z at = absurd (no-frame z)
 
-  leaf-units : (F : Forest X) → F ≡ leaf → unitsF F ≡ 0
+  pub leaf-units : (F : Forest X) → F ≡ leaf → unitsF F ≡ 0
   unfolding unitsF
   leaf-units leaf z = refl
   leaf-units (fork t v k n) z = absurd (no-fork t v k n z)
 
-  no-own : (v : List X) → length v ≡ 0 → v ≡ []
+  pub no-own : (v : List X) → length v ≡ 0 → v ≡ []
   no-own [] z = refl
   no-own (x ∷ v) z = absurd (omega (arith, z))
 
@@ -74,7 +74,7 @@ module _ {X : Type 0} where
   none-ahead (past t v k ∷ w) e = absurd (omega (arith, e))
   none-ahead (down t v n ∷ w) e = absurd (omega (arith, e))
 
-  none-units : (F : Forest X) → unitsF F ≡ 0 → F ≡ leaf
+  pub none-units : (F : Forest X) → unitsF F ≡ 0 → F ≡ leaf
   none-units leaf e = refl
   none-units (fork t v k n) e = absurd (omega (arith, e, fork-units t v k n))
 

@@ -89,7 +89,7 @@ module _ {s : List ℕ} {base n room : ℕ} (units : UnitsOf s base n room) {f :
             adds = add-chain s units cs x eu (take (p .depth) (p .nodes)) (p .place) (p .depth + 1) (levelsAt f (p .from)) load e q (omega (arith, units .within)) z;
           }
 
-under-take : (n : ℕ) (l : List ℕ) (i k : ℕ) → i ≤ k → Under n (take k l) → Under n (take i l)
+pub under-take : (n : ℕ) (l : List ℕ) (i k : ℕ) → i ≤ k → Under n (take k l) → Under n (take i l)
 under-take n l zero k h u = none-under
 under-take n [] (suc i) k h u = none-under
 under-take n (x ∷ l) (suc i) zero h u = absurd (omega arith)

@@ -25,7 +25,7 @@ use Rattle.region.specs.Layout.{levelUnits, rowUnits, unitsF}
 use Rattle.region.specs.Units.{valueBytes, valueOf}
 use Rattle.region.specs.Forms.{Form}
 use Rattle.region.proofs.Instances.{value-long, value-back, values}
-use Rattle.forest.specs.Places.{unitAt, levelUnitsAt, rowEnd, kidsEnd}
+use Rattle.forest.specs.Places.{unitAt, ownAt, levelUnitsAt, rowEnd, kidsEnd}
 use Rattle.forest.specs.Stands.{Stands}
 use Rattle.forest.specs.Paths.{nodesAt}
 use Rattle.forest.proofs.StandsLaws.{fork-units, ForkFits, fits-fork, stands-len, stands-own, stands-end, stands-past}
@@ -170,6 +170,12 @@ module _ (base : ℕ) (s : List ℕ) (n : ℕ) (F : Forest ℕ) (st : Stands val
   last-past =
       stands-past values base s (deep 1 (r .way)) (ahead (r .way)) (ahead (r .way) + unitsF node) (r .level) (r .own) (r .kids) (r .next) here n
       (omega (arith, inside, fork-units (r .level) (r .own) (r .kids) (r .next))) ∙ omega arith
+
+  pub last-count : ownAt base s (ahead (r .way)) ≡ length (r .own)
+  last-count = stands-own values base s (deep 1 (r .way)) (ahead (r .way)) (ahead (r .way) + unitsF node) (r .level) (r .own) (r .kids) (r .next) here
+
+  pub last-inside : ahead (r .way) + levelUnits (r .level) + length (r .own) ≤ n
+  last-inside = omega (arith, inside, fork-units (r .level) (r .own) (r .kids) (r .next))
 
   -- what it holds is as what every node holds
   pub last-owns : (P : List ℕ → Type 0) → Owns P F → P (r .own)

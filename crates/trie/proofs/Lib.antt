@@ -2,6 +2,7 @@ pub mod SpotLaws
 pub mod ValueLaws
 pub mod SlotLaws
 pub mod AddLaws
+pub mod TakeLaws
 pub mod StepLaws
 pub mod LastLaws
 pub mod StoredPath
@@ -9,3 +10,4 @@ pub mod InsertLaws
 pub mod InsertChain
 pub mod KnownLaws
 pub mod CallLaws
+pub mod RemoveLaws

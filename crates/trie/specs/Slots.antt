@@ -2,9 +2,9 @@
 -- to a region answers and leaves, by its tests. Assumes nothing.
 use mathlib.Core.Path.{_≡_}
 use Prim.Native.Nat.{ℕ, _+_, _-_, _≤_, _<_}
-use mathlib.Core.Bool.{true, false, cond}
+use mathlib.Core.Bool.{Bool, true, false, cond, _&&_}
 use mathlib.Core.List.{List}
-use lib.Dec.{ltb}
+use lib.Dec.{eqb, ltb}
 use lib.ListN.{take}
 use Rattle.refusal.specs.declared.Refusal.{Refusal}
 use Rattle.refusal.specs.declared.Refusal.the-variants.{NotAStore}
@@ -16,7 +16,7 @@ use Rattle.held.specs.Room.{fullRules}
 use Rattle.level.specs.Places.{levelsAt}
 use Rattle.region.specs.Units.{valueBytes}
 use Rattle.region.specs.Store.{roomAt}
-use Rattle.forest.specs.Places.{levelUnitsAt, rowEnd}
+use Rattle.forest.specs.Places.{ownAt, levelUnitsAt, rowEnd, kidsEnd}
 use Rattle.seek.specs.declared.Path.{Path}
 use Rattle.room.specs.declared.Load.{Load}
 use Rattle.room.specs.Runs.{WantedFor}
@@ -36,6 +36,10 @@ slotIn base s n node x =
     cond (ltb (rowEnd base s node n) (node + levelUnitsAt base s node)) (record { at = 0; held = false; sound = false })
     (slotAt (node + levelUnitsAt base s node)
     (spotFrom 0 x (valuesFrom base s (node + levelUnitsAt base s node) (rowEnd base s node n - (node + levelUnitsAt base s node)))))
+
+-- a node that holds one value and has no child
+abbrev pub aloneIn : (base : ℕ) → List ℕ → (n node : ℕ) → Bool
+aloneIn base s n node = eqb (ownAt base s node) 1 && eqb (rowEnd base s node n) (kidsEnd base s node n)
 
 -- whether so many nodes, a pair and so many cells more fit, by the counts of the header
 abbrev pub fitting : List ℕ → (nodes cells : ℕ) → Checked

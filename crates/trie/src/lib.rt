@@ -1,6 +1,7 @@
 // The store of subscriptions: filters with their values.
 mod calls;
 mod inserting;
+mod removing;
 mod slots;
 mod values;
 
