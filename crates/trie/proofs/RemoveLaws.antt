@@ -208,9 +208,9 @@ module _ (s : List ℕ) {base n room : ℕ} (units : UnitsOf s base n room) (f :
     gone-absent h =
         record {
           does = λ (st : SubscriptionStore s).
-          let g = held-so st false (turned-not (slot .held) h) in
-          let a = spot-apart x (at-last s units f fine few pf q full st .own) (own-asc s units f fine few pf q full st) g in
-          remove-none s st f x fine (held-is s units f fine few pf st x ∙ ap (member eqb x) (own-is s units f fine few pf q full st) ∙ a .absent);
+              let g = held-so st false (turned-not (slot .held) h) in
+              let a = spot-apart x (at-last s units f fine few pf q full st .own) (own-asc s units f fine few pf q full st) g in
+              remove-none s st f x fine (held-is s units f fine few pf st x ∙ ap (member eqb x) (own-is s units f fine few pf q full st) ∙ a .absent);
         }
 
     module _ (h : not (slot .held) ≡ false) {b : Bool} (eb : b ≡ aloneIn base s n node) where
@@ -258,7 +258,7 @@ module _ (s : List ℕ) {base n room : ℕ} (units : UnitsOf s base n room) (f :
       gone-unit z {t} {r} a =
           record {
             does = λ (st : SubscriptionStore s).
-            let g : slot .at ≡ ahead (m st .way) + levelUnits (m st .level) + spotFrom 0 x (m st .own) .at = ap (λ (c : Slot). c .at) (stored st) in
-            let d : node ≡ ahead (m st .way) = here ∙ node-is s units f fine few pf q full st in
-            one-less st (held-now st) (others st z) (less-at s base n (take (p .depth - 1) (p .nodes)) t r node (ahead (m st .way)) (slot .at) (ahead (m st .way) + levelUnits (m st .level) + spotFrom 0 x (m st .own) .at) d g a);
+                let g : slot .at ≡ ahead (m st .way) + levelUnits (m st .level) + spotFrom 0 x (m st .own) .at = ap (λ (c : Slot). c .at) (stored st) in
+                let d : node ≡ ahead (m st .way) = here ∙ node-is s units f fine few pf q full st in
+                one-less st (held-now st) (others st z) (less-at s base n (take (p .depth - 1) (p .nodes)) t r node (ahead (m st .way)) (slot .at) (ahead (m st .way) + levelUnits (m st .level) + spotFrom 0 x (m st .own) .at) d g a);
           }

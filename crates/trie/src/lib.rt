@@ -6,6 +6,7 @@ mod slots;
 mod values;
 
 pub use calls::insert;
+pub use calls::remove;
 use refusal::Refusal;
 
 // What a change answers: a number, or the refusal.
