@@ -2,21 +2,23 @@
 ghost use mathlib.Core.Path.{_≡_};
 ghost use Rattle.refusal.specs.Refusals.{_at_, told};
 ghost use Rattle.cjumbradi.specs.Calls.{ofChecked, ofParsed, ofMatched, ofBool, ofKind};
+ghost use Rattle.cjumbradi.specs.Regions.{ofSize};
 use level::Kind;
 use refusal::Refusal;
+use region::Size;
 use topic::Checked;
 use topic::Matched;
 use topic::Parsed;
 
 // Nothing is refused, and this was found.
-fn tell_found(found: u64, value: &mut u64) -> u64
+pub fn tell_found(found: u64, value: &mut u64) -> u64
     ensures { λ n. ⌜ (n at now (value .exit)) ≡ (0 at found) ⌝ }
 {
     *value = found;
     0
 }
 
-fn tell_refusal(refusal: Refusal, place: &mut u64) -> u64
+pub fn tell_refusal(refusal: Refusal, place: &mut u64) -> u64
     ensures { λ n. ⌜ (n at now (place .exit)) ≡ told refusal ⌝ }
 {
     *place = refusal::place(refusal);
@@ -70,5 +72,14 @@ pub fn tell_kind(kind: Kind, value: &mut u64) -> u64
         Kind::Blank => tell_found(3, value),
         Kind::SingleWildcard => tell_found(4, value),
         Kind::MultiWildcard => tell_found(5, value),
+    }
+}
+
+pub fn tell_size(size: Size, value: &mut u64) -> u64
+    ensures { λ n. ⌜ (n at now (value .exit)) ≡ ofSize size ⌝ }
+{
+    match size {
+        Size::Bytes(bytes) => tell_found(bytes, value),
+        Size::Refused(refusal) => tell_refusal(refusal, value),
     }
 }
