@@ -2,6 +2,7 @@
 -- the region is no store. Assumes nothing.
 use mathlib.Core.Path.{_≡_}
 use Prim.Native.Nat.{ℕ}
+use mathlib.Core.Bool.{Bool, true, false}
 use Rattle.refusal.specs.Refusals.{Told, _at_, told}
 use Rattle.refusal.specs.declared.Refusal.the-variants.{NotAStore}
 use Rattle.held.specs.Room.{Room}
@@ -15,6 +16,11 @@ roomFor nodes pairs cells = record { nodes = nodes; pairs = pairs; cells = cells
 abbrev pub ofSize : Size → Told
 ofSize (Bytes n) = 0 at n
 ofSize (Refused r) = told r
+
+-- what is told of a count, if the region is a store and if not
+unfoldable pub ofCount : (store : Bool) → ℕ → Told
+ofCount true count = 0 at count
+ofCount false count = told NotAStore
 
 -- of a region that is a store the count is told, and of any other 11
 pub record Counts (Store : Type 0) (count : ℕ) (t : Told) : Type 0 where

@@ -1,5 +1,5 @@
 // The calls on regions: the bytes that one needs, opening it, and the counts of what it holds. A count is told of a store of
-// the call's kind alone: the region is tested first.
+// the call's kind alone: the region is tested.
 ghost use mathlib.Core.Path.{_≡_};
 ghost use lib.ListN.{length};
 ghost use Rattle.refusal.specs.Refusals.{_at_};
@@ -13,10 +13,8 @@ ghost use Rattle.region.specs.Opening.{roomOf, neededOf, openRules, openedAs};
 ghost use Rattle.cjumbradi.specs.Calls.{ofChecked};
 ghost use Rattle.cjumbradi.specs.Regions.{roomFor, ofSize, Counts};
 use crate::telling::tell_checked;
-use crate::telling::tell_found;
-use crate::telling::tell_refusal;
+use crate::telling::tell_count;
 use crate::telling::tell_size;
-use refusal::Refusal;
 use region::Capacities;
 use region::Cells;
 use region::Kind;
@@ -79,11 +77,8 @@ pub extern "C" fn cjumbradi_open_retained(
 pub extern "C" fn cjumbradi_nodes_size(region: &[u8], value: &mut u64) -> u64
     ensures { λ n. ⌜ Counts (SubscriptionStore (now (region .entry))) (nodeCount (held (forestAt valueOf (now (region .entry))))) (n at now (value .exit)) ⌝ }
 {
-    if audit::is_store(region, Kind::Subscriptions) {
-        let nodes = region::nodes_size(region);
-        return tell_found(nodes.0, value);
-    }
-    tell_refusal(Refusal::NotAStore, value)
+    let nodes = region::nodes_size(region);
+    tell_count(audit::is_store(region, Kind::Subscriptions), nodes.0, value)
 }
 
 // The pairs of a filter and a value in a store of subscriptions.
@@ -91,11 +86,8 @@ pub extern "C" fn cjumbradi_nodes_size(region: &[u8], value: &mut u64) -> u64
 pub extern "C" fn cjumbradi_values_size(region: &[u8], value: &mut u64) -> u64
     ensures { λ n. ⌜ Counts (SubscriptionStore (now (region .entry))) (length (held (forestAt valueOf (now (region .entry))))) (n at now (value .exit)) ⌝ }
 {
-    if audit::is_store(region, Kind::Subscriptions) {
-        let pairs = region::values_size(region);
-        return tell_found(pairs.0, value);
-    }
-    tell_refusal(Refusal::NotAStore, value)
+    let pairs = region::values_size(region);
+    tell_count(audit::is_store(region, Kind::Subscriptions), pairs.0, value)
 }
 
 // The names of a store of retained names.
@@ -103,9 +95,6 @@ pub extern "C" fn cjumbradi_values_size(region: &[u8], value: &mut u64) -> u64
 pub extern "C" fn cjumbradi_count(region: &[u8], value: &mut u64) -> u64
     ensures { λ n. ⌜ Counts (RetainedStore (now (region .entry))) (length (held (forestAt storedOf (now (region .entry))))) (n at now (value .exit)) ⌝ }
 {
-    if audit::is_store(region, Kind::Retained) {
-        let names = region::values_size(region);
-        return tell_found(names.0, value);
-    }
-    tell_refusal(Refusal::NotAStore, value)
+    let names = region::values_size(region);
+    tell_count(audit::is_store(region, Kind::Retained), names.0, value)
 }

@@ -2,7 +2,7 @@
 ghost use mathlib.Core.Path.{_≡_};
 ghost use Rattle.refusal.specs.Refusals.{_at_, told};
 ghost use Rattle.cjumbradi.specs.Calls.{ofChecked, ofParsed, ofMatched, ofBool, ofKind};
-ghost use Rattle.cjumbradi.specs.Regions.{ofSize};
+ghost use Rattle.cjumbradi.specs.Regions.{ofSize, ofCount};
 use level::Kind;
 use refusal::Refusal;
 use region::Size;
@@ -11,14 +11,14 @@ use topic::Matched;
 use topic::Parsed;
 
 // Nothing is refused, and this was found.
-pub fn tell_found(found: u64, value: &mut u64) -> u64
+fn tell_found(found: u64, value: &mut u64) -> u64
     ensures { λ n. ⌜ (n at now (value .exit)) ≡ (0 at found) ⌝ }
 {
     *value = found;
     0
 }
 
-pub fn tell_refusal(refusal: Refusal, place: &mut u64) -> u64
+fn tell_refusal(refusal: Refusal, place: &mut u64) -> u64
     ensures { λ n. ⌜ (n at now (place .exit)) ≡ told refusal ⌝ }
 {
     *place = refusal::place(refusal);
@@ -82,4 +82,14 @@ pub fn tell_size(size: Size, value: &mut u64) -> u64
         Size::Bytes(bytes) => tell_found(bytes, value),
         Size::Refused(refusal) => tell_refusal(refusal, value),
     }
+}
+
+// A count of what a region holds, if it is a store.
+pub fn tell_count(store: bool, count: u64, value: &mut u64) -> u64
+    ensures { λ n. ⌜ (n at now (value .exit)) ≡ ofCount store count ⌝ }
+{
+    if store {
+        return tell_found(count, value);
+    }
+    tell_refusal(Refusal::NotAStore, value)
 }
