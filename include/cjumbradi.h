@@ -1,8 +1,8 @@
-/* Cjumbradi: MQTT topic names and filters, for a caller in C or Rust.
+/* Cjumbradi: MQTT topic names and filters, and stores of them in lent bytes, for a caller in C or Rust.
  *
  * A text is a pointer and a length. It need not end with a NUL, and it may hold any bytes: each call
  * tests its own input. The pointer is not null, also where the length is 0. Texts are read only, and a
- * call keeps no pointer after it returns. A value that is handed back overlaps no text.
+ * call keeps no pointer after it returns. A value that is handed back overlaps no text and no region.
  *
  * Each call returns the number of the refusal, 0 for none, and hands a value back: what it found, or
  * where it refuses, the place of the refusal.
@@ -27,6 +27,8 @@ extern "C" {
 #define CJUMBRADI_HASH_NOT_LAST 7 /* '#' before the last level; place: the level, from 0 */
 #define CJUMBRADI_NO_INNER 8      /* `$share/`: no '/' after the group, or nothing after it */
 #define CJUMBRADI_BAD_GROUP 9     /* `$share/`: '+' or '#' in the group */
+#define CJUMBRADI_BAD_SIZE 10     /* a capacity out of range, or the region too short */
+#define CJUMBRADI_NOT_A_STORE 11  /* the region is no store of the call's kind */
 
 /* What a level is. */
 #define CJUMBRADI_NONE 0 /* there is no such level */
@@ -63,6 +65,29 @@ uint64_t cjumbradi_is_exclusive_subscription(const uint8_t *text, size_t text_le
  * name. */
 uint64_t cjumbradi_matches(const uint8_t *filter, size_t filter_len, const uint8_t *name,
                            size_t name_len, uint64_t *yes);
+
+/* A region is a run of bytes that the caller owns and lends to a call. A store is one region and nothing
+ * else: there is no handle, and nothing to close. It may be copied, kept in a file and read again. There
+ * are two kinds: subscriptions, which are filters with their values, and retained names. docs/STORE.md
+ * says when a region is a store. Any bytes may be lent: a call that wants a store tests them first, and
+ * refuses 11 where they are none of its kind. */
+
+/* How many bytes a region needs for 1 to 4,096 nodes, 1 to 8,192 pairs and 1 to 8,192 cells. Both kinds
+ * need the same. Refuses 10. */
+uint64_t cjumbradi_needed(uint64_t nodes, uint64_t pairs, uint64_t cells, uint64_t *bytes);
+
+/* Make a region an empty store, whatever it held. A region may be longer than it needs to be. Refuse 10,
+ * and then the region is as it was. Opened, the place is 0. */
+uint64_t cjumbradi_open_subscriptions(uint8_t *region, size_t region_len, uint64_t nodes, uint64_t pairs,
+                                      uint64_t cells, uint64_t *place);
+uint64_t cjumbradi_open_retained(uint8_t *region, size_t region_len, uint64_t nodes, uint64_t pairs,
+                                 uint64_t cells, uint64_t *place);
+
+/* How many nodes, and how many pairs of a filter and a value, a store of subscriptions has; how many
+ * names a store of retained names has. The region is only read. Refuse 11. */
+uint64_t cjumbradi_nodes_size(const uint8_t *region, size_t region_len, uint64_t *nodes);
+uint64_t cjumbradi_values_size(const uint8_t *region, size_t region_len, uint64_t *values);
+uint64_t cjumbradi_count(const uint8_t *region, size_t region_len, uint64_t *names);
 
 #ifdef __cplusplus
 }

@@ -10,7 +10,7 @@ pub struct Refusal {
     pub place: u64,
 }
 
-/// The refusal numbers of this layer, by document 01's names.
+/// The refusal numbers of the calls that are compared, by document 01's names.
 pub mod number {
     pub const EMPTY: u64 = 1;
     pub const TOO_LONG: u64 = 2;
@@ -21,6 +21,8 @@ pub mod number {
     pub const HASH_NOT_LAST: u64 = 7;
     pub const NO_INNER: u64 = 8;
     pub const BAD_GROUP: u64 = 9;
+    pub const BAD_SIZE: u64 = 10;
+    pub const NOT_A_STORE: u64 = 11;
 }
 
 /// What a call answers: its value, or a refusal.

@@ -37,13 +37,13 @@ extern "C" {
 
 /// What stands in a number before the call writes it. No right answer is this number, so a call
 /// that writes nothing is noticed.
-const UNWRITTEN: u64 = 0x5555_5555_5555_5555;
+pub const UNWRITTEN: u64 = 0x5555_5555_5555_5555;
 
 /// The library. An empty slice of Rust has a pointer that is not null, as the interface wants.
 pub struct Library;
 
 /// A returned number with what was handed back beside it.
-fn answer<T>(number: u64, value: T, place: u64) -> Answer<T> {
+pub fn answer<T>(number: u64, value: T, place: u64) -> Answer<T> {
     match number {
         0 => Ok(value),
         _ => Err(Refusal { number, place }),

@@ -1,7 +1,9 @@
-//! The comparison harness of the topic library: arguments, judges and totals.
+//! The comparison harness of the library: arguments, judges and totals.
 
 mod answers;
 mod compare;
+mod damage;
+mod damaged;
 #[cfg(feature = "rust")]
 mod differences;
 mod examples;
@@ -9,17 +11,22 @@ mod gate;
 mod inputs;
 mod library;
 mod long;
+mod made_stores;
 #[cfg(feature = "rust")]
 mod matching;
 mod mutation;
 mod random;
 mod reference;
+mod regions;
 mod report;
 #[cfg(feature = "rust")]
 mod rust;
 mod self_test;
 mod shrink;
 mod stages;
+mod store_examples;
+mod store_judge;
+mod stores;
 
 use std::env;
 use std::process::ExitCode;
@@ -38,6 +45,14 @@ pub struct Totals {
 }
 
 impl Totals {
+    /// Both together.
+    pub fn and(self, more: Totals) -> Self {
+        Totals {
+            passed: self.passed + more.passed,
+            failed: self.failed + more.failed,
+        }
+    }
+
     /// Counts one check, which fails where there is a complaint.
     pub fn count(&mut self, complaint: Option<String>) {
         match complaint {
@@ -113,7 +128,8 @@ fn main() -> ExitCode {
                 candidate: &Library,
                 judges: &judges(),
             };
-            gate::run(&comparison, stages::stages(&stages::GATE, seed))
+            let of_texts = gate::run(&comparison, stages::stages(&stages::GATE, seed));
+            of_texts.and(damage::run(&damage::GATE, seed))
         }
     };
     println!("{} passed, {} failed", totals.passed, totals.failed);

@@ -1,14 +1,18 @@
 //! The test of the harness itself: the reference answers the examples of document 01, an honest
-//! run finds nothing, and every mutation is noticed by each judge that has a say in it.
+//! run finds nothing, and every mutation is noticed by each judge that has a say in it. The same
+//! for regions: examples, an honest run, and every condition of a store left out.
 
 use crate::answers::TopicCalls;
 use crate::compare::{Comparison, Difference, Judge};
+use crate::damage;
 use crate::examples;
 use crate::inputs::Input;
 use crate::library::Library;
 use crate::mutation::{self, Mutation};
 use crate::reference::{Reference, HONEST};
 use crate::stages::{stages, QUICK};
+use crate::store_examples;
+use crate::store_judge::{self, StoreJudge};
 use crate::{judges, rust_judge, Totals};
 
 pub fn run(seed: u64) -> Totals {
@@ -34,6 +38,32 @@ pub fn run(seed: u64) -> Totals {
             let noticed = first_difference(&mutated, &[rust], seed);
             totals.count(unnoticed(mutation, "Rust", noticed));
         }
+    }
+    totals.and(of_regions(seed))
+}
+
+/// The judge of regions: what it writes down, an honest run, and a judge without each condition.
+fn of_regions(seed: u64) -> Totals {
+    let mut totals = Totals::default();
+    for (example, is_right) in store_examples::written_down() {
+        totals.count((!is_right).then(|| format!("{example} is written down wrongly")));
+    }
+    let noise = damage::first_difference(&damage::HONEST, seed);
+    totals.count(noise.map(|wrong| format!("an honest run on regions differs, {wrong}")));
+    let is_left = damage::leaves_other_stores(seed);
+    totals.count((!is_left).then(|| "no damage leaves another store".to_string()));
+    for condition in store_judge::CONDITIONS {
+        let judge = StoreJudge {
+            left_out: Some(condition),
+        };
+        let noticed = damage::first_difference(&judge, seed);
+        totals.count(match noticed {
+            None => Some(format!("a judge without {condition:?} is not noticed")),
+            Some(wrong) => {
+                println!("without {condition:?}: {wrong:.120}");
+                None
+            }
+        });
     }
     totals
 }

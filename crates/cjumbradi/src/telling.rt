@@ -2,8 +2,10 @@
 ghost use mathlib.Core.Path.{_≡_};
 ghost use Rattle.refusal.specs.Refusals.{_at_, told};
 ghost use Rattle.cjumbradi.specs.Calls.{ofChecked, ofParsed, ofMatched, ofBool, ofKind};
+ghost use Rattle.cjumbradi.specs.Regions.{ofSize, ofCount};
 use level::Kind;
 use refusal::Refusal;
+use region::Size;
 use topic::Checked;
 use topic::Matched;
 use topic::Parsed;
@@ -71,4 +73,23 @@ pub fn tell_kind(kind: Kind, value: &mut u64) -> u64
         Kind::SingleWildcard => tell_found(4, value),
         Kind::MultiWildcard => tell_found(5, value),
     }
+}
+
+pub fn tell_size(size: Size, value: &mut u64) -> u64
+    ensures { λ n. ⌜ (n at now (value .exit)) ≡ ofSize size ⌝ }
+{
+    match size {
+        Size::Bytes(bytes) => tell_found(bytes, value),
+        Size::Refused(refusal) => tell_refusal(refusal, value),
+    }
+}
+
+// A count of what a region holds, if it is a store.
+pub fn tell_count(store: bool, count: u64, value: &mut u64) -> u64
+    ensures { λ n. ⌜ (n at now (value .exit)) ≡ ofCount store count ⌝ }
+{
+    if store {
+        return tell_found(count, value);
+    }
+    tell_refusal(Refusal::NotAStore, value)
 }

@@ -1,0 +1,100 @@
+// The calls on regions: the bytes that one needs, opening it, and the counts of what it holds. A count is told of a store of
+// the call's kind alone: the region is tested.
+ghost use mathlib.Core.Path.{_≡_};
+ghost use lib.ListN.{length};
+ghost use Rattle.refusal.specs.Refusals.{_at_};
+ghost use Rattle.topic.specs.Answers.{checked};
+ghost use Rattle.held.specs.Room.{nodeCount};
+ghost use Rattle.held.specs.Forest.{held};
+ghost use Rattle.region.specs.declared.Kind.the-variants.{Subscriptions, Retained};
+ghost use Rattle.region.specs.Units.{valueOf, storedOf};
+ghost use Rattle.region.specs.Store.{forestAt, SubscriptionStore, RetainedStore};
+ghost use Rattle.region.specs.Opening.{roomOf, neededOf, openRules, openedAs};
+ghost use Rattle.cjumbradi.specs.Calls.{ofChecked};
+ghost use Rattle.cjumbradi.specs.Regions.{roomFor, ofSize, Counts};
+use crate::telling::tell_checked;
+use crate::telling::tell_count;
+use crate::telling::tell_size;
+use region::Capacities;
+use region::Cells;
+use region::Kind;
+use region::Nodes;
+use region::Pairs;
+
+fn capacities(nodes: u64, pairs: u64, cells: u64) -> Capacities
+    ensures { λ c. ⌜ roomOf c ≡ roomFor nodes pairs cells ⌝ }
+{
+    Capacities {
+        nodes: Nodes(nodes),
+        pairs: Pairs(pairs),
+        cells: Cells(cells),
+    }
+}
+
+// Both kinds need the same.
+#[no_mangle]
+pub extern "C" fn cjumbradi_needed(nodes: u64, pairs: u64, cells: u64, bytes: &mut u64) -> u64
+    ensures { λ n. ⌜ (n at now (bytes .exit)) ≡ ofSize (neededOf (roomFor nodes pairs cells)) ⌝ }
+{
+    tell_size(
+        region::needed(Kind::Subscriptions, capacities(nodes, pairs, cells)),
+        bytes,
+    )
+}
+
+#[no_mangle]
+pub extern "C" fn cjumbradi_open_subscriptions(
+    region: &mut [u8],
+    nodes: u64,
+    pairs: u64,
+    cells: u64,
+    place: &mut u64,
+) -> u64
+    ensures { λ n. ⌜ (n at now (place .exit)) ≡ ofChecked (checked (openRules (roomFor nodes pairs cells) (now (region .entry)))) ⌝ }
+    ensures { λ n. ⌜ now (region .exit) ≡ openedAs (checked (openRules (roomFor nodes pairs cells) (now (region .entry)))) Subscriptions (roomFor nodes pairs cells) (now (region .entry)) ⌝ }
+{
+    let opened = region::open(region, Kind::Subscriptions, capacities(nodes, pairs, cells));
+    tell_checked(opened, place)
+}
+
+#[no_mangle]
+pub extern "C" fn cjumbradi_open_retained(
+    region: &mut [u8],
+    nodes: u64,
+    pairs: u64,
+    cells: u64,
+    place: &mut u64,
+) -> u64
+    ensures { λ n. ⌜ (n at now (place .exit)) ≡ ofChecked (checked (openRules (roomFor nodes pairs cells) (now (region .entry)))) ⌝ }
+    ensures { λ n. ⌜ now (region .exit) ≡ openedAs (checked (openRules (roomFor nodes pairs cells) (now (region .entry)))) Retained (roomFor nodes pairs cells) (now (region .entry)) ⌝ }
+{
+    let opened = region::open(region, Kind::Retained, capacities(nodes, pairs, cells));
+    tell_checked(opened, place)
+}
+
+// The nodes of a store of subscriptions.
+#[no_mangle]
+pub extern "C" fn cjumbradi_nodes_size(region: &[u8], value: &mut u64) -> u64
+    ensures { λ n. ⌜ Counts (SubscriptionStore (now (region .entry))) (nodeCount (held (forestAt valueOf (now (region .entry))))) (n at now (value .exit)) ⌝ }
+{
+    let nodes = region::nodes_size(region);
+    tell_count(audit::is_store(region, Kind::Subscriptions), nodes.0, value)
+}
+
+// The pairs of a filter and a value in a store of subscriptions.
+#[no_mangle]
+pub extern "C" fn cjumbradi_values_size(region: &[u8], value: &mut u64) -> u64
+    ensures { λ n. ⌜ Counts (SubscriptionStore (now (region .entry))) (length (held (forestAt valueOf (now (region .entry))))) (n at now (value .exit)) ⌝ }
+{
+    let pairs = region::values_size(region);
+    tell_count(audit::is_store(region, Kind::Subscriptions), pairs.0, value)
+}
+
+// The names of a store of retained names.
+#[no_mangle]
+pub extern "C" fn cjumbradi_count(region: &[u8], value: &mut u64) -> u64
+    ensures { λ n. ⌜ Counts (RetainedStore (now (region .entry))) (length (held (forestAt storedOf (now (region .entry))))) (n at now (value .exit)) ⌝ }
+{
+    let names = region::values_size(region);
+    tell_count(audit::is_store(region, Kind::Retained), names.0, value)
+}
