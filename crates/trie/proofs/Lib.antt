@@ -11,3 +11,4 @@ pub mod InsertChain
 pub mod KnownLaws
 pub mod CallLaws
 pub mod RemoveLaws
+pub mod AskLaws

@@ -2,3 +2,4 @@ pub mod Values
 pub mod Slots
 pub mod Removals
 pub mod Calls
+pub mod Listings

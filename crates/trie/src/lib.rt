@@ -1,10 +1,13 @@
 // The store of subscriptions: filters with their values.
+mod asking;
 mod calls;
 mod inserting;
 mod removing;
 mod slots;
 mod values;
 
+pub use asking::is_match;
+pub use asking::matches;
 pub use calls::insert;
 pub use calls::remove;
 use refusal::Refusal;
@@ -12,6 +15,12 @@ use refusal::Refusal;
 // What a change answers: a number, or the refusal.
 pub enum Changed {
     Done(u64),
+    Refused(Refusal),
+}
+
+// A listing: how many bytes and records it has, or why there is none.
+pub enum Listed {
+    Given { bytes: usize, records: usize },
     Refused(Refusal),
 }
 

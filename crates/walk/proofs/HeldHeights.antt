@@ -21,7 +21,7 @@ module _ {E : Type 0} (P : E → Type 0) where
   all-back (x ∷ a) b h = all-back a b (h .1)
 
 module _ {X : Type 0} where
-  abbrev Short : ℕ → Filter × X → Type 0
+  abbrev pub Short : ℕ → Filter × X → Type 0
   Short m e = length (e .0) ≤ m
 
   shorter : (t : Level) (m : ℕ) (l : List (Filter × X)) → All (Short m) (map (under t) l) → All (Short (m - 1)) l

@@ -1,0 +1,32 @@
+use Rattle.trie.proofs.AskLaws.{list-short, list-given}
+use borrow.Author.Needs.{needs}
+use Rattle.trie.proofs.asking.list_in.Statement.{statement}
+use Rattle.trie.proofs.asking.list_in.Tie as tie
+use Rattle.trie.proofs.asking.list_in.Reads as reads
+use Rattle.trie.proofs.asking.list_in.Lts as lts
+use Rattle.listing.proofs.write_all.Reads as write-all-reads
+use Rattle.walk.proofs.measure.Reads as measure-reads
+
+-- src/asking.rt:59:9
+measure-requires : tie.Need-measure-requires
+measure-requires c κs = search needs
+
+-- src/asking.rt:63:9
+returns : tie.Need-returns
+returns c = search (needs, list-short)
+
+-- src/asking.rt:65:5
+write-all-requires : tie.Need-write-all-requires
+write-all-requires c κs = search needs
+
+-- src/asking.rt:55:1
+same-length : tie.Need-same-length
+same-length c = search needs
+
+-- src/asking.rt:55:1
+returns-2 : tie.Need-returns-2
+returns-2 c = search (needs, list-given)
+
+pub list-in-spec : {M : Type 1} → statement M
+list-in-spec =
+    tie.close (tie.spec measure-requires returns write-all-requires same-length returns-2)
