@@ -2,7 +2,8 @@
  *
  * A text is a pointer and a length. It need not end with a NUL, and it may hold any bytes: each call
  * tests its own input. The pointer is not null, also where the length is 0. Texts are read only, and a
- * call keeps no pointer after it returns. A value that is handed back overlaps no text and no region.
+ * call keeps no pointer after it returns. A buffer, a region and a value that is handed back do not
+ * overlap each other, nor a text.
  *
  * Each call returns the number of the refusal, 0 for none, and hands a value back: what it found, or
  * where it refuses, the place of the refusal.
@@ -29,6 +30,11 @@ extern "C" {
 #define CJUMBRADI_BAD_GROUP 9     /* `$share/`: '+' or '#' in the group */
 #define CJUMBRADI_BAD_SIZE 10     /* a capacity out of range, or the region too short */
 #define CJUMBRADI_NOT_A_STORE 11  /* the region is no store of the call's kind */
+#define CJUMBRADI_TOO_DEEP 12     /* over 128 levels */
+#define CJUMBRADI_NODES_FULL 13   /* there is no room for its nodes */
+#define CJUMBRADI_PAIRS_FULL 14   /* there is no room for one pair more */
+#define CJUMBRADI_TEXT_FULL 15    /* there is no room for its text */
+#define CJUMBRADI_SHORT_ROOM 16   /* the buffer is too short; place: the bytes that are needed */
 
 /* What a level is. */
 #define CJUMBRADI_NONE 0 /* there is no such level */
@@ -82,6 +88,34 @@ uint64_t cjumbradi_open_subscriptions(uint8_t *region, size_t region_len, uint64
                                       uint64_t cells, uint64_t *place);
 uint64_t cjumbradi_open_retained(uint8_t *region, size_t region_len, uint64_t nodes, uint64_t pairs,
                                  uint64_t cells, uint64_t *place);
+
+/* Put a value at a filter: 1 if it is new there, 0 if it was held already. Refuses 11, then a fault of
+ * the filter (1 to 4, 6, 7), then 12, then 13, 14, 15: those only where the pair is not held, and the
+ * store with it would have more nodes, pairs or cells than it was opened for. A node is a list of
+ * leading levels of held filters; it takes a cell for each 16 bytes of its last level, rounded up, and
+ * none where that is blank, '+' or '#'. */
+uint64_t cjumbradi_insert(uint8_t *region, size_t region_len, const uint8_t *filter, size_t filter_len,
+                          uint32_t value, uint64_t *answer);
+
+/* Take a value away from a filter: 1 if it was held, else 0. The room that it took serves again. Refuses
+ * 11, then a fault of the filter. */
+uint64_t cjumbradi_remove(uint8_t *region, size_t region_len, const uint8_t *filter, size_t filter_len,
+                          uint32_t value, uint64_t *answer);
+
+/* Whether some held filter matches a name: 1 or 0. Refuses 11, then a fault of the name (1 to 5). */
+uint64_t cjumbradi_is_match(const uint8_t *region, size_t region_len, const uint8_t *name,
+                            size_t name_len, uint64_t *yes);
+
+/* The listing for a name: each held filter that matches it once, with its values. Two filters are
+ * compared at their first difference: there '#' comes before '+' before any other level, and a filter
+ * that ends comes before one that goes on with '#'. A record is the bytes 46 4D, the length of the
+ * filter (2 bytes), the filter, the number of its values (2 bytes) and the values, ascending (4 bytes
+ * each); all numbers high byte first. Hands back how many bytes and records there are; no match is 0 and
+ * 0, and the bytes of the buffer past the listing stay. Refuses 11, then a fault of the name (1 to 5),
+ * then 16 where the buffer is shorter than the listing: with the bytes that it needs as the place. A
+ * refusal writes nothing into the buffer, and hands back 0 records. */
+uint64_t cjumbradi_listing(const uint8_t *region, size_t region_len, const uint8_t *name, size_t name_len,
+                           uint8_t *out, size_t out_len, uint64_t *bytes, uint64_t *records);
 
 /* How many nodes, and how many pairs of a filter and a value, a store of subscriptions has; how many
  * names a store of retained names has. The region is only read. Refuse 11. */

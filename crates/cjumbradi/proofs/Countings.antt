@@ -7,11 +7,10 @@ use lib.ListN.{length}
 use Rattle.refusal.specs.Refusals.{Told, _at_, told}
 use Rattle.refusal.specs.declared.Refusal.the-variants.{NotAStore}
 use Rattle.lent.specs.Total.{read}
-use Rattle.held.specs.Room.{nodeCount}
 use Rattle.held.specs.Forest.{held}
-use Rattle.region.specs.Units.{valueOf, storedOf}
-use Rattle.region.specs.Store.{forestAt, SubscriptionStore, RetainedStore}
-use Rattle.region.proofs.CountLaws.{nodes-kept, pairs-kept}
+use Rattle.region.specs.Units.{storedOf}
+use Rattle.region.specs.Store.{forestAt, RetainedStore}
+use Rattle.region.proofs.CountLaws.{pairs-kept}
 use Rattle.audit.specs.Decides.{Decides}
 use Rattle.cjumbradi.specs.Regions.{ofCount, Counts}
 
@@ -38,16 +37,9 @@ counts false d kept e =
       other = λ _. e;
     }
 
--- the three counts, as they are kept in the header
-module _ {s : List ℕ} {b : Bool} {k : ℕ} {t : Told} where
-  pub nodes-told : Decides b (SubscriptionStore s) → k ≡ read 2 10 s → t ≡ ofCount b k → Counts (SubscriptionStore s) (nodeCount (held (forestAt valueOf s))) t
-  nodes-told d q e = counts b d (λ p. q ∙ nodes-kept (forestAt valueOf s) s (p .written)) e
-
-  pub values-told : Decides b (SubscriptionStore s) → k ≡ read 2 12 s → t ≡ ofCount b k → Counts (SubscriptionStore s) (length (held (forestAt valueOf s))) t
-  values-told d q e = counts b d (λ p. q ∙ pairs-kept (forestAt valueOf s) s (p .written)) e
-
-  pub names-told : Decides b (RetainedStore s) → k ≡ read 2 12 s → t ≡ ofCount b k → Counts (RetainedStore s) (length (held (forestAt storedOf s))) t
-  names-told d q e = counts b d (λ p. q ∙ pairs-kept (forestAt storedOf s) s (p .written)) e
+-- the names, as they are kept in the header
+pub names-told : {s : List ℕ} {b : Bool} {k : ℕ} {t : Told} → Decides b (RetainedStore s) → k ≡ read 2 12 s → t ≡ ofCount b k → Counts (RetainedStore s) (length (held (forestAt storedOf s))) t
+names-told {s} {b} d q e = counts b d (λ p. q ∙ pairs-kept (forestAt storedOf s) s (p .written)) e
 
 -- what is told of a region is settled: two that are told of it are the same
 pub counts-settled : {P : Type 0} (b : Bool) {count : ℕ} {t u : Told} → Decides b P → Counts P count t → Counts P count u → t ≡ u

@@ -1,14 +1,13 @@
-// The calls on regions: the bytes that one needs, opening it, and the counts of what it holds. A count is told of a store of
-// the call's kind alone: the region is tested.
+// The calls on regions of either kind: the bytes that one needs, opening it; and how many names a store of them holds, which is
+// told of such a store alone: the region is tested.
 ghost use mathlib.Core.Path.{_≡_};
 ghost use lib.ListN.{length};
 ghost use Rattle.refusal.specs.Refusals.{_at_};
 ghost use Rattle.topic.specs.Answers.{checked};
-ghost use Rattle.held.specs.Room.{nodeCount};
 ghost use Rattle.held.specs.Forest.{held};
 ghost use Rattle.region.specs.declared.Kind.the-variants.{Subscriptions, Retained};
-ghost use Rattle.region.specs.Units.{valueOf, storedOf};
-ghost use Rattle.region.specs.Store.{forestAt, SubscriptionStore, RetainedStore};
+ghost use Rattle.region.specs.Units.{storedOf};
+ghost use Rattle.region.specs.Store.{forestAt, RetainedStore};
 ghost use Rattle.region.specs.Opening.{roomOf, neededOf, openRules, openedAs};
 ghost use Rattle.cjumbradi.specs.Calls.{ofChecked};
 ghost use Rattle.cjumbradi.specs.Regions.{roomFor, ofSize, Counts};
@@ -70,24 +69,6 @@ pub extern "C" fn cjumbradi_open_retained(
 {
     let opened = region::open(region, Kind::Retained, capacities(nodes, pairs, cells));
     tell_checked(opened, place)
-}
-
-// The nodes of a store of subscriptions.
-#[no_mangle]
-pub extern "C" fn cjumbradi_nodes_size(region: &[u8], value: &mut u64) -> u64
-    ensures { λ n. ⌜ Counts (SubscriptionStore (now (region .entry))) (nodeCount (held (forestAt valueOf (now (region .entry))))) (n at now (value .exit)) ⌝ }
-{
-    let nodes = region::nodes_size(region);
-    tell_count(audit::is_store(region, Kind::Subscriptions), nodes.0, value)
-}
-
-// The pairs of a filter and a value in a store of subscriptions.
-#[no_mangle]
-pub extern "C" fn cjumbradi_values_size(region: &[u8], value: &mut u64) -> u64
-    ensures { λ n. ⌜ Counts (SubscriptionStore (now (region .entry))) (length (held (forestAt valueOf (now (region .entry))))) (n at now (value .exit)) ⌝ }
-{
-    let pairs = region::values_size(region);
-    tell_count(audit::is_store(region, Kind::Subscriptions), pairs.0, value)
 }
 
 // The names of a store of retained names.

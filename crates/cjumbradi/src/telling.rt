@@ -3,12 +3,18 @@ ghost use mathlib.Core.Path.{_≡_};
 ghost use Rattle.refusal.specs.Refusals.{_at_, told};
 ghost use Rattle.cjumbradi.specs.Calls.{ofChecked, ofParsed, ofMatched, ofBool, ofKind};
 ghost use Rattle.cjumbradi.specs.Regions.{ofSize, ofCount};
+ghost use Rattle.trie.specs.Sizes.{nodesTold, valuesTold};
+ghost use Rattle.cjumbradi.specs.Stores.{ofChanged, ofListed, recordsOf, ofOutcome};
 use level::Kind;
 use refusal::Refusal;
 use region::Size;
 use topic::Checked;
 use topic::Matched;
 use topic::Parsed;
+use trie::Changed;
+use trie::Listed;
+use trie::NodesSize;
+use trie::ValuesSize;
 
 // Nothing is refused, and this was found.
 fn tell_found(found: u64, value: &mut u64) -> u64
@@ -92,4 +98,47 @@ pub fn tell_count(store: bool, count: u64, value: &mut u64) -> u64
         return tell_found(count, value);
     }
     tell_refusal(Refusal::NotAStore, value)
+}
+
+pub fn tell_changed(changed: Changed, value: &mut u64) -> u64
+    ensures { λ n. ⌜ (n at now (value .exit)) ≡ ofChanged changed ⌝ }
+{
+    match changed {
+        Changed::Done(answer) => tell_found(answer, value),
+        Changed::Refused(refusal) => tell_refusal(refusal, value),
+    }
+}
+
+// A listing has two values: its bytes, or the place of the refusal, and its records.
+pub fn tell_listed(listed: Listed, value: &mut u64, count: &mut u64) -> u64
+    ensures { λ n. ⌜ ((n at now (value .exit)) ≡ ofListed listed) × (now (count .exit) ≡ recordsOf listed) ⌝ }
+{
+    match listed {
+        Listed::Given { bytes, records } => {
+            *count = records as u64;
+            return tell_found(bytes as u64, value);
+        }
+        Listed::Refused(refusal) => {
+            *count = 0;
+            return tell_refusal(refusal, value);
+        }
+    }
+}
+
+pub fn tell_nodes(size: NodesSize, value: &mut u64) -> u64
+    ensures { λ n. ⌜ (n at now (value .exit)) ≡ ofOutcome (nodesTold size) ⌝ }
+{
+    match size {
+        NodesSize::Held(nodes) => tell_found(nodes.0, value),
+        NodesSize::Refused(refusal) => tell_refusal(refusal, value),
+    }
+}
+
+pub fn tell_values(size: ValuesSize, value: &mut u64) -> u64
+    ensures { λ n. ⌜ (n at now (value .exit)) ≡ ofOutcome (valuesTold size) ⌝ }
+{
+    match size {
+        ValuesSize::Held(pairs) => tell_found(pairs.0, value),
+        ValuesSize::Refused(refusal) => tell_refusal(refusal, value),
+    }
 }

@@ -12,3 +12,4 @@ pub mod KnownLaws
 pub mod CallLaws
 pub mod RemoveLaws
 pub mod AskLaws
+pub mod SizeLaws

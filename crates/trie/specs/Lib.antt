@@ -3,3 +3,4 @@ pub mod Slots
 pub mod Removals
 pub mod Calls
 pub mod Listings
+pub mod Sizes

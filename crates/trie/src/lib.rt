@@ -3,6 +3,7 @@ mod asking;
 mod calls;
 mod inserting;
 mod removing;
+mod sizes;
 mod slots;
 mod values;
 
@@ -11,6 +12,10 @@ pub use asking::matches;
 pub use calls::insert;
 pub use calls::remove;
 use refusal::Refusal;
+use region::Nodes;
+use region::Pairs;
+pub use sizes::nodes_size;
+pub use sizes::values_size;
 
 // What a change answers: a number, or the refusal.
 pub enum Changed {
@@ -21,6 +26,18 @@ pub enum Changed {
 // A listing: how many bytes and records it has, or why there is none.
 pub enum Listed {
     Given { bytes: usize, records: usize },
+    Refused(Refusal),
+}
+
+// The nodes that a store has, or why there are none to tell.
+pub enum NodesSize {
+    Held(Nodes),
+    Refused(Refusal),
+}
+
+// The pairs that a store holds, or why there are none to tell.
+pub enum ValuesSize {
+    Held(Pairs),
     Refused(Refusal),
 }
 

@@ -1,0 +1,44 @@
+use borrow.Author.Needs.{needs}
+use Rattle.cjumbradi.proofs.Tellings.{told-arm, count-arm}
+use Rattle.cjumbradi.specs.Stores.{ofListed}
+use Rattle.cjumbradi.proofs.telling.tell_listed.Statement.{statement}
+use Rattle.cjumbradi.proofs.telling.tell_listed.Tie as tie
+use Rattle.cjumbradi.proofs.telling.tell_listed.Reads as reads
+use Rattle.cjumbradi.proofs.telling.tell_listed.Lts as lts
+use Rattle.cjumbradi.proofs.telling.tell_found.Reads as tell-found-reads
+use Rattle.cjumbradi.proofs.telling.tell_refusal.Reads as tell-refusal-reads
+
+-- src/telling.rt:117:25
+enum-known-listed : tie.Need-enum-known-listed
+enum-known-listed c = search needs
+
+-- src/telling.rt:119:13
+tell-found-requires : tie.Need-tell-found-requires
+tell-found-requires c κs = search needs
+
+-- src/telling.rt:119:13
+returns : tie.Need-returns
+returns c = search (needs, told-arm ofListed, count-arm)
+
+-- src/telling.rt:121:25
+enum-known-listed-2 : tie.Need-enum-known-listed-2
+enum-known-listed-2 c = search needs
+
+-- src/telling.rt:123:13
+tell-refusal-requires : tie.Need-tell-refusal-requires
+tell-refusal-requires c κs = search needs
+
+-- src/telling.rt:123:13
+returns-2 : tie.Need-returns-2
+returns-2 c = search (needs, told-arm ofListed, count-arm)
+
+pub tell-listed-spec : {M : Type 1} → statement M
+tell-listed-spec =
+    tie.close
+    (tie.spec
+    enum-known-listed
+    tell-found-requires
+    returns
+    enum-known-listed-2
+    tell-refusal-requires
+    returns-2)
