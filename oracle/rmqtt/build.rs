@@ -5,7 +5,10 @@ use std::path::{Path, PathBuf};
 use std::{env, fs};
 
 /// The modules, and their files in the folder of the source.
-const MODULES: [(&str, &str); 1] = [("topic", "rmqtt/src/topic.rs")];
+const MODULES: [(&str, &str); 2] = [
+    ("topic", "rmqtt/src/topic.rs"),
+    ("trie", "rmqtt/src/trie.rs"),
+];
 
 fn main() {
     println!("cargo:rerun-if-changed=build.rs");

@@ -23,6 +23,11 @@ pub mod number {
     pub const BAD_GROUP: u64 = 9;
     pub const BAD_SIZE: u64 = 10;
     pub const NOT_A_STORE: u64 = 11;
+    pub const TOO_DEEP: u64 = 12;
+    pub const NODES_FULL: u64 = 13;
+    pub const PAIRS_FULL: u64 = 14;
+    pub const TEXT_FULL: u64 = 15;
+    pub const SHORT_ROOM: u64 = 16;
 }
 
 /// What a call answers: its value, or a refusal.

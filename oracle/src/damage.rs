@@ -5,6 +5,7 @@ use std::time::Instant;
 
 use crate::answers::number::{BAD_SIZE, NOT_A_STORE};
 use crate::answers::{Answer, Refusal};
+use crate::called;
 use crate::damaged::{self, Damaged};
 use crate::random::Random;
 use crate::regions::{self, Counted};
@@ -148,6 +149,9 @@ fn compared(judge: &StoreJudge, region: &[u8], was: Option<&[Node]>) -> Case {
     let retained = judge.store(Kind::Retained, region);
     let used = |store: &Option<Store>| store.as_ref().map(|store| store.used);
     agree(region, expected(used(&subscriptions), used(&retained)))?;
+    if let Some(what) = called::wrong(judge, region, subscriptions.as_ref()) {
+        return Err(wrong(&what, region));
+    }
     Ok(match subscriptions.or(retained) {
         None => Found::NoStore,
         Some(store) if was.is_some_and(|was| was != store.row) => Found::OtherStore,

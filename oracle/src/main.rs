@@ -1,6 +1,7 @@
 //! The comparison harness of the library: arguments, judges and totals.
 
 mod answers;
+mod called;
 mod compare;
 mod damage;
 mod damaged;
@@ -8,6 +9,8 @@ mod damaged;
 mod differences;
 mod examples;
 mod gate;
+mod held;
+mod histories;
 mod inputs;
 mod library;
 mod long;
@@ -27,6 +30,7 @@ mod stages;
 mod store_examples;
 mod store_judge;
 mod stores;
+mod subscribed;
 
 use std::env;
 use std::process::ExitCode;
@@ -129,7 +133,9 @@ fn main() -> ExitCode {
                 judges: &judges(),
             };
             let of_texts = gate::run(&comparison, stages::stages(&stages::GATE, seed));
-            of_texts.and(damage::run(&damage::GATE, seed))
+            of_texts
+                .and(damage::run(&damage::GATE, seed))
+                .and(histories::run(seed))
         }
     };
     println!("{} passed, {} failed", totals.passed, totals.failed);

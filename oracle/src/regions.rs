@@ -42,25 +42,29 @@ const AROUND: usize = 32;
 const GUARD: u8 = 0xA5;
 
 /// A region with its guards.
-struct Guarded(Vec<u8>);
+pub struct Guarded(Vec<u8>);
 
 impl Guarded {
-    fn new(region: &[u8]) -> Self {
+    pub fn new(region: &[u8]) -> Self {
         let guard = [GUARD; AROUND];
         Guarded([&guard[..], region, &guard[..]].concat())
     }
 
-    fn region(&mut self) -> &mut [u8] {
+    pub fn region(&mut self) -> &mut [u8] {
         let end = self.0.len() - AROUND;
         &mut self.0[AROUND..end]
     }
 
-    /// The guards are as they were, and between them stands this.
-    fn is(&self, region: &[u8]) -> bool {
+    /// What stands between the guards; none where these are not as they were.
+    pub fn inner(&self) -> Option<&[u8]> {
         let (before, rest) = self.0.split_at(AROUND);
         let (inner, behind) = rest.split_at(rest.len() - AROUND);
         let is_guard = |bytes: &[u8]| bytes.iter().all(|byte| *byte == GUARD);
-        is_guard(before) && is_guard(behind) && inner == region
+        (is_guard(before) && is_guard(behind)).then_some(inner)
+    }
+
+    fn is(&self, region: &[u8]) -> bool {
+        self.inner() == Some(region)
     }
 }
 

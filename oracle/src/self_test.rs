@@ -6,6 +6,8 @@ use crate::answers::TopicCalls;
 use crate::compare::{Comparison, Difference, Judge};
 use crate::damage;
 use crate::examples;
+use crate::held::TWISTS;
+use crate::histories;
 use crate::inputs::Input;
 use crate::library::Library;
 use crate::mutation::{self, Mutation};
@@ -39,7 +41,7 @@ pub fn run(seed: u64) -> Totals {
             totals.count(unnoticed(mutation, "Rust", noticed));
         }
     }
-    totals.and(of_regions(seed))
+    totals.and(of_regions(seed)).and(of_histories(seed))
 }
 
 /// The judge of regions: what it writes down, an honest run, and a judge without each condition.
@@ -61,6 +63,25 @@ fn of_regions(seed: u64) -> Totals {
             None => Some(format!("a judge without {condition:?} is not noticed")),
             Some(wrong) => {
                 println!("without {condition:?}: {wrong:.120}");
+                None
+            }
+        });
+    }
+    totals
+}
+
+/// The model of what is held: an honest run, and every rule of it broken.
+fn of_histories(seed: u64) -> Totals {
+    let mut totals = Totals::default();
+    let noise = histories::first_difference(None, seed);
+    totals.count(
+        noise.map(|(calls, wrong)| format!("an honest history differs, {calls:?}: {wrong}")),
+    );
+    for twist in TWISTS {
+        totals.count(match histories::first_difference(Some(twist), seed) {
+            None => Some(format!("{twist:?} is not noticed")),
+            Some((calls, wrong)) => {
+                println!("{twist:?}: after {} calls, {wrong:.100}", calls.len());
                 None
             }
         });

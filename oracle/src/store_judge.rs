@@ -58,10 +58,12 @@ pub struct StoreJudge {
     pub left_out: Option<Condition>,
 }
 
-/// A region that is a store: what is in use, and its nodes.
+/// A region that is a store: its capacities, what is in use, its nodes, and what is held.
 pub struct Store {
+    pub most: Counts,
     pub used: Counts,
     pub row: Vec<Node>,
+    pub held: Vec<(Path, Held)>,
 }
 
 /// So many bytes from a place on, cut off at the end.
@@ -192,7 +194,12 @@ impl StoreJudge {
             && self.fits(most, used)
             && self.is_well_formed(kind, &row)
             && self.are_accepted(kind, &held);
-        is_store.then_some(Store { used, row })
+        is_store.then_some(Store {
+            most,
+            used,
+            row,
+            held,
+        })
     }
 
     /// The header before its counts, and the region's length.

@@ -3,3 +3,8 @@
 #![allow(dead_code, unused_imports, clippy::all)]
 
 include!(concat!(env!("OUT_DIR"), "/modules.rs"));
+
+/// What the files take from the rest of rmqtt, where it is no more than text.
+pub mod types {
+    pub type TopicFilter = String;
+}

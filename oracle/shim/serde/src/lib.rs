@@ -1,14 +1,10 @@
-//! Stands in for serde. Nothing is written down or read back in a comparison, so its two derives
-//! add nothing to a type.
+//! Stands in for serde. Nothing is written down or read back in a comparison, so every type has its
+//! two traits.
 
-use proc_macro::TokenStream;
+pub use serde_derive::{Deserialize, Serialize};
 
-#[proc_macro_derive(Serialize, attributes(serde))]
-pub fn serialize(_: TokenStream) -> TokenStream {
-    TokenStream::new()
-}
+pub trait Serialize {}
+impl<T: ?Sized> Serialize for T {}
 
-#[proc_macro_derive(Deserialize, attributes(serde))]
-pub fn deserialize(_: TokenStream) -> TokenStream {
-    TokenStream::new()
-}
+pub trait Deserialize<'de>: Sized {}
+impl<'de, T> Deserialize<'de> for T {}
