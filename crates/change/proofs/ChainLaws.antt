@@ -8,13 +8,18 @@ use lib.ListN.{length, replicate}
 use Rattle.held.specs.Order.{Level, Filter}
 use Rattle.held.specs.Bytes.{each}
 use Rattle.held.specs.Forest.{Forest, leaf, fork}
-use Rattle.held.specs.Edit.{editOwn, chain}
+use Rattle.held.specs.Edit.{editOwn, chain, weigh}
 use Rattle.region.specs.Layout.{levelUnits, rowUnits, unitsF, headBytes, levelBytes, rowBytes, unitBytes, marksOf}
 use Rattle.lent.proofs.Turns.{replicate-last}
 use Rattle.room.specs.Runs.{runUnits, lastOwn, runBytes, runMarks}
 use Rattle.change.specs.Ways.{rowMarks}
 use Rattle.change.specs.Reach.{growHere}
 use Rattle.room.proofs.RunLaws.{run-on, marks-on}
+
+-- a level weighs 1
+pub weigh-one : (gs : Filter) → weigh (λ l. 1) gs ≡ length gs
+weigh-one [] = refl
+weigh-one (g ∷ gs) = omega (arith, weigh-one gs)
 
 pub marks-none : (X : Type 0) (d : ℕ) → marksOf {X = X} d leaf ≡ []
 unfolding marksOf

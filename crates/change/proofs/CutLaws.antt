@@ -22,6 +22,7 @@ use Rattle.room.specs.Runs.{runUnits, WantedFor}
 use Rattle.room.specs.Changes.{noLoad}
 use Rattle.change.specs.Cut.{Alone, last, only, CutAt, here, pass, into}
 use Rattle.room.proofs.RunLaws.{units-on, units-none}
+use Rattle.change.proofs.ChainLaws.{weigh-one}
 use Rattle.change.proofs.HoldsLaws.{Changes, length-held}
 use Rattle.change.proofs.ReachLaws.{pruned-fork}
 
@@ -69,10 +70,6 @@ module _ {X : Type 0} (e : List X → List X) where
   unfolding held
   alone-held (last z) = refl
   alone-held (only {h = h} {v = v} {k = k} a) = omega (arith, length-held h v k leaf, alone-held a)
-
-  weigh-one : (gs : Filter) → weigh (λ l. 1) gs ≡ length gs
-  weigh-one [] = refl
-  weigh-one (g ∷ gs) = omega (arith, weigh-one gs)
 
   alone-of : {p q : Filter} {F : Forest X} {w : Way X} {t : Level} {v : List X} {k n : Forest X} → CutAt e p F w t v k n q → Alone e q t v k
   alone-of (here a) = a

@@ -28,7 +28,7 @@ use Rattle.change.specs.Holds.{Holds}
 use Rattle.change.proofs.WayLaws.{units-plug, wide-add, wide-ahead}
 use Rattle.room.proofs.RunLaws.{units-on}
 use Rattle.change.proofs.ReachLaws.{reach-grow, reach-cut, reach-nodes, reach-spot}
-use Rattle.change.proofs.ChainLaws.{units-split, before-units}
+use Rattle.change.proofs.ChainLaws.{weigh-one, units-split, before-units}
 use Rattle.change.proofs.HoldsLaws.{Changes, fits-plug, holds-view, room-small, units-within, change-held, change-room, change-framed, length-held}
 use Rattle.change.proofs.PlaceLaws.{chain-view, chain-framed, unit-view, unit-framed, less-view, less-framed, taken-view, taken-framed}
 
@@ -91,10 +91,6 @@ module _ {X : Type 0} (u : Form X) where
     held-here : (g : Level) (gs : Filter) (G : Forest X) → length (held (growHere e (g ∷ gs) G)) ≡ 1 + length (held G)
     unfolding growHere
     held-here g gs G = omega (arith, length-held g (editOwn e gs []) (chain e gs) G, held-own gs)
-
-    weigh-one : (gs : Filter) → weigh (λ l. 1) gs ≡ length gs
-    weigh-one [] = refl
-    weigh-one (g ∷ gs) = omega (arith, weigh-one gs)
 
     pub chain-changes : (g : Level) (gs : Filter) (G : Forest X) (load : Load) → WantedFor (g ∷ gs) load → Changes G (growHere e (g ∷ gs) G) load noLoad
     chain-changes g gs G load l =

@@ -5,8 +5,8 @@ use Prim.Native.Nat.{ℕ}
 use mathlib.Core.List.{List}
 use Rattle.refusal.specs.Refusals.{Told, _at_, told}
 use Rattle.held.specs.History.{Outcome, answered, refused}
-use Rattle.trie.specs.declared.Changed.{Changed}
-use Rattle.trie.specs.declared.Changed.the-variants.{Done, Refused}
+use Rattle.edit.specs.declared.Changed.{Changed}
+use Rattle.edit.specs.declared.Changed.the-variants.{Done, Refused}
 use Rattle.trie.specs.declared.Listed.{Listed}
 use Rattle.trie.specs.declared.Listed.the-variants.{Given, Refused as NotGiven}
 use Rattle.trie.specs.Listings.{Lists}

@@ -3,7 +3,8 @@ ghost use lib.ListN.{length};
 ghost use Rattle.refusal.specs.Refusals.{_at_};
 ghost use Rattle.held.specs.Room.{nodeCount};
 ghost use Rattle.held.specs.Subscriptions.{insert, remove};
-ghost use Rattle.trie.specs.Calls.{heldIn, Calls};
+ghost use Rattle.edit.specs.Calls.{Calls};
+ghost use Rattle.trie.specs.Calls.{heldIn, subscriptionStore};
 ghost use Rattle.trie.specs.Listings.{Asks};
 ghost use Rattle.trie.specs.Sizes.{Counts};
 ghost use Rattle.cjumbradi.specs.Calls.{ofMatched};
@@ -21,7 +22,7 @@ pub extern "C" fn cjumbradi_insert(
     value: u32,
     answer: &mut u64,
 ) -> u64
-    ensures { λ n. ⌜ Tells ofChanged (Calls (insert (now (filter .entry)) value) (now (region .entry)) (now (region .exit))) (n at now (answer .exit)) ⌝ }
+    ensures { λ n. ⌜ Tells ofChanged (Calls subscriptionStore (insert (now (filter .entry)) value) (now (region .entry)) (now (region .exit))) (n at now (answer .exit)) ⌝ }
 {
     tell_changed(trie::insert(region, filter, value), answer)
 }
@@ -33,7 +34,7 @@ pub extern "C" fn cjumbradi_remove(
     value: u32,
     answer: &mut u64,
 ) -> u64
-    ensures { λ n. ⌜ Tells ofChanged (Calls (remove (now (filter .entry)) value) (now (region .entry)) (now (region .exit))) (n at now (answer .exit)) ⌝ }
+    ensures { λ n. ⌜ Tells ofChanged (Calls subscriptionStore (remove (now (filter .entry)) value) (now (region .entry)) (now (region .exit))) (n at now (answer .exit)) ⌝ }
 {
     tell_changed(trie::remove(region, filter, value), answer)
 }

@@ -5,13 +5,13 @@ ghost use Rattle.cjumbradi.specs.Calls.{ofChecked, ofParsed, ofMatched, 
 ghost use Rattle.cjumbradi.specs.Regions.{ofSize, ofCount};
 ghost use Rattle.trie.specs.Sizes.{nodesTold, valuesTold};
 ghost use Rattle.cjumbradi.specs.Stores.{ofChanged, ofListed, recordsOf, ofOutcome};
+use edit::Changed;
 use level::Kind;
 use refusal::Refusal;
 use region::Size;
 use topic::Checked;
 use topic::Matched;
 use topic::Parsed;
-use trie::Changed;
 use trie::Listed;
 use trie::NodesSize;
 use trie::ValuesSize;

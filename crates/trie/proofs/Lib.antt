@@ -1,15 +1,12 @@
 pub mod SpotLaws
 pub mod ValueLaws
 pub mod SlotLaws
-pub mod AddLaws
-pub mod TakeLaws
 pub mod StepLaws
-pub mod LastLaws
 pub mod StoredPath
+pub mod StoredSlot
 pub mod InsertLaws
-pub mod InsertChain
 pub mod KnownLaws
-pub mod CallLaws
 pub mod RemoveLaws
 pub mod AskLaws
 pub mod SizeLaws
+pub mod Demand

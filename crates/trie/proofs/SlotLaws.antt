@@ -4,14 +4,13 @@ use mathlib.Core.Bool.{true, false}
 use mathlib.Core.List.{List}
 use Prim.Native.Nat.{ℕ, _+_, _-_, _/_, _≤_, _<_}
 use native.Mathlib.Omega.{arith}
-use lib.Dec.{eqb}
-use borrow.Author.Tests.{lt-ltb, le-ltb, eq-eqb, ne-eqb}
+use borrow.Author.Tests.{lt-ltb, le-ltb}
 use Rattle.forest.specs.declared.Row.{Row}
 use Rattle.forest.specs.Places.{levelUnitsAt, rowEnd, RowAt}
 use Rattle.trie.specs.declared.Spot.{Spot}
 use Rattle.trie.specs.declared.Slot.{Slot}
 use Rattle.trie.specs.Values.{valuesFrom, spotFrom}
-use Rattle.trie.specs.Slots.{slotAt, slotIn, aloneIn}
+use Rattle.trie.specs.Slots.{slotAt, slotIn}
 
 module _ (base : ℕ) (s : List ℕ) (n node x : ℕ) {row : Row} (r : RowAt base s node n row) {first end : ℕ} (ef : first ≡ node + (row .len + 23) / 16) (ee : end ≡ row .end) where
   first-is : first ≡ node + levelUnitsAt base s node
@@ -28,11 +27,3 @@ module _ (base : ℕ) (s : List ℕ) (n node x : ℕ) {row : Row} (r : RowAt bas
     pub slot-sound : _≡_ {A = Slot} (record { at = first + spot .at; held = spot .held; sound = true }) (slotIn base s n node x)
     unfolding slotIn
     slot-sound = rw (← first-is, ← end-is, le-ltb end first h, ← es)
-
--- the tests of is_alone
-module _ (base : ℕ) (s : List ℕ) (n node : ℕ) {row : Row} (r : RowAt base s node n row) where
-  pub alone-not : (row .own ≡ 1 → ⊥) → false ≡ aloneIn base s n node
-  alone-not h = rw (← r .own-is, ne-eqb (row .own) 1 h)
-
-  pub alone-is : row .own ≡ 1 → eqb (row .end) (row .past) ≡ aloneIn base s n node
-  alone-is h = rw (← r .own-is, ← r .end-is, ← r .past-is, eq-eqb (row .own) 1 h)

@@ -1,4 +1,7 @@
 // The calls that ask a store about a name: the region is tested, then the name, then the walk is made.
+//
+// A caller that knows the region to be a store may leave out the test of it: on other bytes such a call ends and writes only in
+// the buffer, but its answer is open.
 ghost use mathlib.Core.Path.{_≡_};
 ghost use Prim.Native.Nat.{_≤_};
 ghost use lib.ListN.{length};
@@ -25,8 +28,8 @@ fn is_match_in(s: &[u8], base: usize, n: usize, room: usize, name: &[u8]) -> Mat
     Matched::No
 }
 
-// Of a region that was tested, and a name that was accepted.
-fn is_match_known(s: &[u8], name: &[u8]) -> Matched
+// For a name that was accepted.
+fn is_match_accepted(s: &[u8], name: &[u8]) -> Matched
     requires { ⌜ checked (nameRules (now name)) ≡ Accepted ⌝ }
     ensures { λ r. ⌜ AsksKnown (now (s .entry)) (now (name .entry)) r ⌝ }
 {
@@ -44,11 +47,18 @@ pub fn is_match(region: &[u8], name: &[u8]) -> Matched
     if !audit::is_store(region, Kind::Subscriptions) {
         return Matched::Refused(Refusal::NotAStore);
     }
+    is_match_known(region, name)
+}
+
+// The same without the test of the region.
+pub fn is_match_known(region: &[u8], name: &[u8]) -> Matched
+    ensures { λ r. ⌜ AsksKnown (now (region .entry)) (now (name .entry)) r ⌝ }
+{
     let text = topic::is_valid_topic_name(name);
     if let Checked::Refused(r) = text {
         return Matched::Refused(r);
     }
-    is_match_known(region, name)
+    is_match_accepted(region, name)
 }
 
 // The listing into a buffer, in the units of a store and for a name that was accepted. It is measured before it is written.
@@ -66,8 +76,8 @@ fn list_in(s: &[u8], base: usize, n: usize, room: usize, name: &[u8], out: &mut 
     Listed::Given { bytes, records }
 }
 
-// Of a region that was tested.
-fn list_known(s: &[u8], name: &[u8], out: &mut [u8]) -> Listed
+// For a name that was accepted.
+fn list_accepted(s: &[u8], name: &[u8], out: &mut [u8]) -> Listed
     requires { ⌜ (checked (nameRules (now name)) ≡ Accepted) × (length (now name) ≤ 65535) ⌝ }
     ensures { λ r. ⌜ ListsKnown (now (s .entry)) (now (name .entry)) (now (out .entry)) (now (out .exit)) r ⌝ }
 {
@@ -85,9 +95,16 @@ pub fn matches(region: &[u8], name: &[u8], out: &mut [u8]) -> Listed
     if !audit::is_store(region, Kind::Subscriptions) {
         return Listed::Refused(Refusal::NotAStore);
     }
+    matches_known(region, name, out)
+}
+
+// The same without the test of the region.
+pub fn matches_known(region: &[u8], name: &[u8], out: &mut [u8]) -> Listed
+    ensures { λ r. ⌜ ListsKnown (now (region .entry)) (now (name .entry)) (now (out .entry)) (now (out .exit)) r ⌝ }
+{
     let text = topic::is_valid_topic_name(name);
     if let Checked::Refused(r) = text {
         return Listed::Refused(r);
     }
-    list_known(region, name, out)
+    list_accepted(region, name, out)
 }

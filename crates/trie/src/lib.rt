@@ -8,20 +8,18 @@ mod slots;
 mod values;
 
 pub use asking::is_match;
+pub use asking::is_match_known;
 pub use asking::matches;
+pub use asking::matches_known;
 pub use calls::insert;
+pub use calls::insert_known;
 pub use calls::remove;
+pub use calls::remove_known;
 use refusal::Refusal;
 use region::Nodes;
 use region::Pairs;
 pub use sizes::nodes_size;
 pub use sizes::values_size;
-
-// What a change answers: a number, or the refusal.
-pub enum Changed {
-    Done(u64),
-    Refused(Refusal),
-}
 
 // A listing: how many bytes and records it has, or why there is none.
 pub enum Listed {

@@ -3,7 +3,7 @@ ghost use mathlib.Core.Path.{_≡_};
 ghost use Prim.Native.Nat.{_≤_, _<_};
 ghost use lib.ListN.{length};
 ghost use Rattle.forest.specs.Places.{unitAt};
-ghost use Rattle.trie.specs.Slots.{slotIn, aloneIn};
+ghost use Rattle.trie.specs.Slots.{slotIn};
 use crate::Slot;
 use crate::values;
 
@@ -27,16 +27,4 @@ pub fn slot_of(s: &[u8], base: usize, n: usize, node: usize, value: u32) -> Slot
         held: spot.held,
         sound: true,
     }
-}
-
-// The node at a unit holds one value and has no child.
-pub fn is_alone(s: &[u8], base: usize, n: usize, node: usize) -> bool
-    requires { ⌜ (node < n) × (unitAt base n ≤ length (now s)) ⌝ }
-    ensures { λ r. ⌜ r ≡ aloneIn base (now (s .entry)) n node ⌝ }
-{
-    let row = forest::row_at(s, base, node, n);
-    if row.own == 1 {
-        return row.end == row.past;
-    }
-    false
 }

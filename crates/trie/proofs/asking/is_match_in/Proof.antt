@@ -6,15 +6,15 @@ use Rattle.trie.proofs.asking.is_match_in.Reads as reads
 use Rattle.trie.proofs.asking.is_match_in.Lts as lts
 use Rattle.walk.proofs.has_match.Reads as has-match-reads
 
--- src/asking.rt:22:8
+-- src/asking.rt:25:8
 has-match-requires : tie.Need-has-match-requires
 has-match-requires c κs = search needs
 
--- src/asking.rt:23:9
+-- src/asking.rt:26:9
 returns : tie.Need-returns
 returns c = search (needs, ask-yes)
 
--- src/asking.rt:18:1
+-- src/asking.rt:21:1
 returns-2 : tie.Need-returns-2
 returns-2 c = search (needs, ask-no)
 

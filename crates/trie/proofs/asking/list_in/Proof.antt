@@ -7,23 +7,23 @@ use Rattle.trie.proofs.asking.list_in.Lts as lts
 use Rattle.listing.proofs.write_all.Reads as write-all-reads
 use Rattle.walk.proofs.measure.Reads as measure-reads
 
--- src/asking.rt:59:9
+-- src/asking.rt:69:9
 measure-requires : tie.Need-measure-requires
 measure-requires c κs = search needs
 
--- src/asking.rt:63:9
+-- src/asking.rt:73:9
 returns : tie.Need-returns
 returns c = search (needs, list-short)
 
--- src/asking.rt:65:5
+-- src/asking.rt:75:5
 write-all-requires : tie.Need-write-all-requires
 write-all-requires c κs = search needs
 
--- src/asking.rt:55:1
+-- src/asking.rt:65:1
 same-length : tie.Need-same-length
 same-length c = search needs
 
--- src/asking.rt:55:1
+-- src/asking.rt:65:1
 returns-2 : tie.Need-returns-2
 returns-2 c = search (needs, list-given)
 

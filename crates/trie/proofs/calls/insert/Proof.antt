@@ -1,68 +1,38 @@
-use Rattle.trie.proofs.CallLaws.{not-a-store, text-refused, text-fine, store-does}
+use Rattle.trie.specs.Calls.{subscriptionStore}
+use Rattle.edit.proofs.CallLaws.{not-a-store, store-does}
 use borrow.Author.Needs.{needs}
 use Rattle.trie.proofs.calls.insert.Statement.{statement}
 use Rattle.trie.proofs.calls.insert.Tie as tie
 use Rattle.trie.proofs.calls.insert.Reads as reads
 use Rattle.trie.proofs.calls.insert.Lts as lts
 use Rattle.audit.proofs.is_store.Reads as is-store-reads
-use Rattle.topic.proofs.is_valid_topic_filter.Reads as is-valid-topic-filter-reads
-use Rattle.trie.proofs.inserting.insert_known.Reads as insert-known-reads
+use Rattle.trie.proofs.calls.insert_known.Reads as insert-known-reads
 
--- src/calls.rt:14:9
+-- src/calls.rt:19:9
 is-store-requires : tie.Need-is-store-requires
 is-store-requires c κs = search needs
 
--- src/calls.rt:15:9
+-- src/calls.rt:20:9
 same-length : tie.Need-same-length
 same-length c = search needs
 
--- src/calls.rt:15:9
+-- src/calls.rt:20:9
 returns : tie.Need-returns
-returns c = search (needs, not-a-store)
+returns c = search (needs, not-a-store subscriptionStore)
 
--- src/calls.rt:17:9
-is-valid-topic-filter-requires : tie.Need-is-valid-topic-filter-requires
-is-valid-topic-filter-requires c κs = search needs
+-- src/calls.rt:22:5
+insert-known-requires : tie.Need-insert-known-requires
+insert-known-requires c κs = search needs
 
--- src/calls.rt:18:29
-enum-known-text : tie.Need-enum-known-text
-enum-known-text c = search needs
-
--- src/calls.rt:19:9
+-- src/calls.rt:16:1
 same-length-2 : tie.Need-same-length-2
 same-length-2 c = search needs
 
--- src/calls.rt:19:9
+-- src/calls.rt:16:1
 returns-2 : tie.Need-returns-2
-returns-2 c = search (needs, text-refused)
-
-enum-told : tie.Need-enum-told
-enum-told c = search needs
-
--- src/calls.rt:21:5
-insert-known-requires : tie.Need-insert-known-requires
-insert-known-requires c κs = search (needs, text-fine)
-
--- src/calls.rt:11:1
-same-length-3 : tie.Need-same-length-3
-same-length-3 c = search needs
-
--- src/calls.rt:11:1
-returns-3 : tie.Need-returns-3
-returns-3 c = search (needs, store-does)
+returns-2 c = search (needs, store-does subscriptionStore)
 
 pub insert-spec : {M : Type 1} → statement M
 insert-spec =
     tie.close
-    (tie.spec
-    is-store-requires
-    same-length
-    returns
-    is-valid-topic-filter-requires
-    enum-known-text
-    same-length-2
-    returns-2
-    enum-told
-    insert-known-requires
-    same-length-3
-    returns-3)
+    (tie.spec is-store-requires same-length returns insert-known-requires same-length-2 returns-2)

@@ -1,39 +1,48 @@
-use Rattle.trie.proofs.InsertChain.{chain-does}
 use Rattle.trie.proofs.KnownLaws.{accepted-size}
+use Rattle.trie.proofs.InsertLaws.{chain-does}
 use borrow.Author.Needs.{needs}
 use Rattle.trie.proofs.inserting.insert_in.Statement.{statement}
 use Rattle.trie.proofs.inserting.insert_in.Tie as tie
 use Rattle.trie.proofs.inserting.insert_in.Reads as reads
 use Rattle.trie.proofs.inserting.insert_in.Lts as lts
+use Rattle.edit.proofs.add_chain.Reads as add-chain-reads
 use Rattle.seek.proofs.find_path.Reads as find-path-reads
-use Rattle.trie.proofs.inserting.add_chain.Reads as add-chain-reads
 use Rattle.trie.proofs.inserting.insert_value.Reads as insert-value-reads
+use Rattle.trie.proofs.values.unit_of.Reads as unit-of-reads
 
--- src/insert.rt:123:9
+-- src/inserting.rt:53:9
 find-path-requires : tie.Need-find-path-requires
 find-path-requires c κs = search needs
 
--- src/insert.rt:125:9
+-- src/inserting.rt:55:9
 insert-value-requires : tie.Need-insert-value-requires
 insert-value-requires c κs = search needs
 
--- src/insert.rt:125:9
+-- src/inserting.rt:55:9
 same-length : tie.Need-same-length
 same-length c = search needs
 
--- src/insert.rt:125:9
+-- src/inserting.rt:55:9
 returns : tie.Need-returns
 returns c = search needs
 
--- src/insert.rt:127:5
+-- src/inserting.rt:57:16
+unit-of-requires : tie.Need-unit-of-requires
+unit-of-requires c κs = search needs
+
+-- src/inserting.rt:58:50
+slice-aggregate-add-chain : tie.Need-slice-aggregate-add-chain
+slice-aggregate-add-chain c = search needs
+
+-- src/inserting.rt:58:5
 add-chain-requires : tie.Need-add-chain-requires
 add-chain-requires c κs = search (needs, accepted-size)
 
--- src/insert.rt:119:1
+-- src/inserting.rt:49:1
 same-length-2 : tie.Need-same-length-2
 same-length-2 c = search needs
 
--- src/insert.rt:119:1
+-- src/inserting.rt:49:1
 returns-2 : tie.Need-returns-2
 returns-2 c = search (needs, chain-does, accepted-size)
 
@@ -45,6 +54,8 @@ insert-in-spec =
     insert-value-requires
     same-length
     returns
+    unit-of-requires
+    slice-aggregate-add-chain
     add-chain-requires
     same-length-2
     returns-2)

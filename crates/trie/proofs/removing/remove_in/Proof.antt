@@ -7,27 +7,27 @@ use Rattle.trie.proofs.removing.remove_in.Lts as lts
 use Rattle.seek.proofs.find_path.Reads as find-path-reads
 use Rattle.trie.proofs.removing.remove_value.Reads as remove-value-reads
 
--- src/removing.rt:79:9
+-- src/removing.rt:55:9
 find-path-requires : tie.Need-find-path-requires
 find-path-requires c κs = search needs
 
--- src/removing.rt:81:9
+-- src/removing.rt:57:9
 remove-value-requires : tie.Need-remove-value-requires
 remove-value-requires c κs = search needs
 
--- src/removing.rt:81:9
+-- src/removing.rt:57:9
 same-length : tie.Need-same-length
 same-length c = search needs
 
--- src/removing.rt:81:9
+-- src/removing.rt:57:9
 returns : tie.Need-returns
 returns c = search needs
 
--- src/removing.rt:75:1
+-- src/removing.rt:51:1
 same-length-2 : tie.Need-same-length-2
 same-length-2 c = search needs
 
--- src/removing.rt:75:1
+-- src/removing.rt:51:1
 returns-2 : tie.Need-returns-2
 returns-2 c = search (needs, missing-absent)
 

@@ -1,0 +1,9 @@
+pub mod AddLaws
+pub mod TakeLaws
+pub mod LastLaws
+pub mod KnownPath
+pub mod StepLaws
+pub mod CallLaws
+pub mod RunLaws
+pub mod Added
+pub mod Taken

@@ -1,0 +1,51 @@
+-- A run of calls on a region leaves held what the history of its calls says. Assumes nothing.
+use mathlib.Core.Path.{_≡_, refl, sym, ap, _∙_}
+use mathlib.Core.Bool.{Bool, true, false, not, _&&_}
+use mathlib.Core.List.{List, [], _∷_}
+use Prim.Native.Nat.{ℕ}
+use Rattle.refusal.specs.declared.Refusal.{Refusal}
+use Rattle.topic.specs.declared.Checked.{Checked}
+use Rattle.topic.specs.declared.Checked.the-variants.{Accepted, Refused as NotAccepted}
+use Rattle.held.specs.Room.{Room}
+use Rattle.held.specs.History.{Effect, Outcome, answered, refused, outcomeOf, outcome, verdict, result, run, forRoom, hasRoom}
+use Rattle.region.specs.Store.{roomAt}
+use Rattle.edit.specs.declared.Changed.{Changed}
+use Rattle.edit.specs.declared.Changed.the-variants.{Done, Refused}
+use Rattle.edit.specs.Calls.{StoreKind, toldAs, Step, Calls}
+use Rattle.edit.specs.Runs.{refusedForRoom, Runs, ended, called}
+
+same-refusal : {a b : Refusal} → refused a ≡ refused b → a ≡ b
+same-refusal e = cc
+
+-- the verdict was for room exactly where the answer says so
+not-for-room : {H : Type 0} (e : Effect H) (r : Changed) → toldAs r ≡ outcome e → refusedForRoom r ≡ false → forRoom (verdict e) ≡ false
+unfolding outcome
+not-for-room e r h q = go (verdict e) refl r h q
+  where
+    go : (v : Checked) → verdict e ≡ v → (r : Changed) → toldAs r ≡ outcomeOf v (e .answer) → refusedForRoom r ≡ false → forRoom v ≡ false
+    go Accepted z r h q = refl
+    go (NotAccepted x) z (Done n) h q = cc
+    go (NotAccepted x) z (Refused y) h q = ap (λ (a : Refusal). forRoom (NotAccepted a)) (sym (same-refusal h)) ∙ q
+
+both : (a b : Bool) → a ≡ false → b ≡ true → (not a && b) ≡ true
+both false true e f = refl
+both true b e f = cc
+both false false e f = cc
+
+pub record RunHolds {C H : Type 0} (k : StoreKind C H) (cs : List C) (s t : List ℕ) : Type 0 where
+  pub store : k .Store t
+  pub holds : k .heldIn t ≡ run (k .effect) (roomAt s) cs (k .heldIn s)
+  pub roomy : hasRoom (k .effect) (roomAt s) cs (k .heldIn s) ≡ true
+
+module _ {C H : Type 0} (k : StoreKind C H) where
+  on : (c : C) (cs : List C) (s t u : List ℕ) (r : Changed) → Step k c s t r → refusedForRoom r ≡ false → RunHolds k cs t u → RunHolds k (c ∷ cs) s u
+  on c cs s t u r a q b =
+      let e : Effect H = k .effect (roomAt s) c (k .heldIn s) in
+      let f : forRoom (verdict e) ≡ false = not-for-room e r (a .told) q in
+      let h : run (k .effect) (roomAt t) cs (k .heldIn t) ≡ run (k .effect) (roomAt s) cs (result e (k .heldIn s)) = rw (a .room, a .holds) in
+      let g : hasRoom (k .effect) (roomAt s) cs (result e (k .heldIn s)) ≡ true = (rw (a .room, a .holds) at (b .roomy)) in
+      record { store = b .store; holds = b .holds ∙ h; roomy = both (forRoom (verdict e)) (hasRoom (k .effect) (roomAt s) cs (result e (k .heldIn s))) f g }
+
+  pub run-holds : {cs : List C} {s t : List ℕ} → k .Store s → Runs k cs s t → RunHolds k cs s t
+  run-holds st ended = record { store = st; holds = refl; roomy = refl }
+  run-holds st (called {c = c} {cs = cs} {s = s} {t = t} {u = u} {r = r} a q rest) = let b = a .on-store st in on c cs s t u r b q (run-holds (b .store) rest)

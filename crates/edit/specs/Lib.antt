@@ -1,0 +1,4 @@
+pub mod Calls
+pub mod Runs
+pub mod Adding
+pub mod Taking

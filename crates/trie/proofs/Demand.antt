@@ -1,0 +1,61 @@
+-- Demand 3 for subscriptions, about the calls of this crate: two runs on opened regions, with the same calls for each pair in the
+-- same order and none refused for room, give the same listings, byte for byte. `Runs` of `edit` is a run: each of its steps is
+-- what `insert` or `remove` promises. Assumes nothing.
+use mathlib.Core.Path.{_≡_, refl, sym, ap, _∙_}
+use Prim.Native.Nat.{ℕ, _≤_}
+use mathlib.Core.Bool.{true}
+use mathlib.Core.List.{List, []}
+use lib.ListN.{length}
+use Rattle.lent.specs.Parts.{patch}
+use Rattle.level.specs.Levels.{join}
+use Rattle.topic.specs.Rules.{filterRules}
+use Rattle.topic.specs.Answers.{checked}
+use Rattle.held.specs.Room.{Room, inRange}
+use Rattle.held.specs.History.{run, hasRoom, accepted}
+use Rattle.held.specs.Subscriptions.{Pair, Call, subscriptions, callsOf}
+use Rattle.held.specs.Forest.{held}
+use Rattle.held.proofs.Histories.{same-held}
+use Rattle.region.specs.Layout.{neededBytes, headerBytes}
+use Rattle.region.specs.Opening.{nothing}
+use Rattle.region.specs.Units.{valueOf}
+use Rattle.region.specs.Store.{roomAt, SubscriptionStore}
+use Rattle.region.proofs.Stores.{opened-forest, opened-subscriptions}
+use Rattle.edit.specs.Runs.{Runs}
+use Rattle.edit.proofs.RunLaws.{RunHolds, run-holds}
+use Rattle.trie.specs.declared.Listed.{Listed}
+use Rattle.trie.specs.Calls.{heldIn, subscriptionStore}
+use Rattle.trie.specs.Listings.{Lists}
+
+-- a store that holds nothing, as it is opened
+pub record Empty (s : List ℕ) : Type 0 where
+  pub store : SubscriptionStore s
+  pub none : heldIn s ≡ []
+
+module _ {cs ds : List Call} {s t u v : List ℕ} (a : Empty s) (b : Empty u) (x : Runs subscriptionStore cs s t) (y : Runs subscriptionStore ds u v)
+    (same : (p : Pair) → accepted (checked (filterRules (join (p .0)))) ≡ true → callsOf p cs ≡ callsOf p ds) where
+  one : RunHolds subscriptionStore cs s t
+  one = run-holds subscriptionStore (a .store) x
+
+  other : RunHolds subscriptionStore ds u v
+  other = run-holds subscriptionStore (b .store) y
+
+  -- the same pairs are held
+  pub runs-hold : heldIn t ≡ heldIn v
+  runs-hold =
+      let r : hasRoom subscriptions (roomAt s) cs [] ≡ true = rw (a .none) at (one .roomy) in
+      let q : hasRoom subscriptions (roomAt u) ds [] ≡ true = rw (b .none) at (other .roomy) in
+      let f : heldIn t ≡ run subscriptions (roomAt s) cs [] = rw (a .none) at (one .holds) in
+      let g : heldIn v ≡ run subscriptions (roomAt u) ds [] = rw (b .none) at (other .holds) in
+      f ∙ same-held (roomAt s) (roomAt u) cs ds r q same ∙ sym g
+
+  -- and a listing answers and writes the same, into buffers that were the same
+  pub runs-list : {name before after after' : List ℕ} {r q : Listed} → Lists t name before after r → Lists v name before after' q → (r ≡ q) × (after ≡ after')
+  runs-list {name} {before} {after} {after'} {r} {q} k l =
+      let m = rw runs-hold at (k .on-store .told (one .store)) in
+      let n = rw runs-hold at (k .on-store .given (one .store)) in
+      (m ∙ sym (l .on-store .told (other .store)), n ∙ sym (l .on-store .given (other .store)))
+
+-- a region that is opened is such a store
+pub opened-empty : (r : Room) (s : List ℕ) → inRange r ≡ true → neededBytes r ≤ length s → Empty (patch 0 (headerBytes 1 r nothing) s)
+unfolding held
+opened-empty r s i l = record { store = opened-subscriptions r s i l; none = ap held (opened-forest 1 r s i l valueOf) }

@@ -1,0 +1,49 @@
+use Rattle.trie.specs.Calls.{subscriptionStore}
+use Rattle.trie.proofs.KnownLaws.{text-fine}
+use Rattle.edit.proofs.StepLaws.{text-refused}
+use borrow.Author.Needs.{needs}
+use Rattle.trie.proofs.calls.insert_known.Statement.{statement}
+use Rattle.trie.proofs.calls.insert_known.Tie as tie
+use Rattle.trie.proofs.calls.insert_known.Reads as reads
+use Rattle.trie.proofs.calls.insert_known.Lts as lts
+use Rattle.topic.proofs.is_valid_topic_filter.Reads as is-valid-topic-filter-reads
+use Rattle.trie.proofs.inserting.insert_accepted.Reads as insert-accepted-reads
+
+-- src/calls.rt:29:9
+is-valid-topic-filter-requires : tie.Need-is-valid-topic-filter-requires
+is-valid-topic-filter-requires c κs = search needs
+
+-- src/calls.rt:30:29
+enum-known-text : tie.Need-enum-known-text
+enum-known-text c = search needs
+
+-- src/calls.rt:31:9
+returns : tie.Need-returns
+returns c = search (needs, text-refused subscriptionStore)
+
+enum-told : tie.Need-enum-told
+enum-told c = search needs
+
+-- src/calls.rt:33:5
+insert-accepted-requires : tie.Need-insert-accepted-requires
+insert-accepted-requires c κs = search (needs, text-fine)
+
+-- src/calls.rt:26:1
+same-length : tie.Need-same-length
+same-length c = search needs
+
+-- src/calls.rt:26:1
+returns-2 : tie.Need-returns-2
+returns-2 c = search needs
+
+pub insert-known-spec : {M : Type 1} → statement M
+insert-known-spec =
+    tie.close
+    (tie.spec
+    is-valid-topic-filter-requires
+    enum-known-text
+    returns
+    enum-told
+    insert-accepted-requires
+    same-length
+    returns-2)
