@@ -7,3 +7,4 @@ pub mod NodeLaws
 pub mod TurnLaws
 pub mod LessLaws
 pub mod WholeLaws
+pub mod StoreLaws

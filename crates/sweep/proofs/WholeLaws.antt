@@ -60,7 +60,7 @@ module _ (kind : ℕ) (r : Room) (u : Used) (k : Kept) (s : List ℕ) (e : part 
   ten = 0x43 ∷ 0x4A ∷ kind ∷ 1 ∷ (bytes 2 (r .nodes) ++ (bytes 2 (r .pairs) ++ bytes 2 (r .cells)))
 
   ten-long : length ten ≡ 10
-  ten-long = rw (length-append, length-append, length-bytes, length-bytes, length-bytes)
+  ten-long = rw (length-append, length-append, length-bytes 2 (r .nodes), length-bytes 2 (r .pairs), length-bytes 2 (r .cells))
 
   abbrev tail : List ℕ
   tail = drop 18 s
@@ -76,7 +76,7 @@ module _ (kind : ℕ) (r : Room) (u : Used) (k : Kept) (s : List ℕ) (e : part 
   -- one of the four numbers, behind the bytes a
   one-put : (a z : List ℕ) (p old new : ℕ) → length a ≡ p → (write p (bytes 2 new) (a ++ (bytes 2 old ++ z)) ≡ (a ++ bytes 2 new) ++ z) × (length (a ++ bytes 2 new) ≡ p + 2)
   one-put a z p old new h = (
-    write-mid a (bytes 2 old) (bytes 2 new) z p h (rw (length-bytes, length-bytes)) ∙ sym (append-assoc a (bytes 2 new) z),
+    write-mid a (bytes 2 old) (bytes 2 new) z p h (rw (length-bytes 2 old, length-bytes 2 new)) ∙ sym (append-assoc a (bytes 2 new) z),
     length-append a (bytes 2 new) ∙ rw (h, length-bytes 2 new),
   )
 

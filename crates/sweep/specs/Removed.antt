@@ -5,15 +5,16 @@ use mathlib.Core.Bool.{not}
 use mathlib.Core.List.{List}
 use lib.ListN.{length}
 use Rattle.lent.specs.Numbers.{bytes, be}
-use Rattle.lent.specs.Parts.{part}
+use Rattle.lent.specs.Parts.{part, Framed}
 use Rattle.lent.specs.Total.{write}
 use Rattle.held.specs.Order.{Filter}
 use Rattle.held.specs.Ascending.{keep}
-use Rattle.held.specs.Retained.{Stored, unexpired}
+use Rattle.held.specs.Retained.{Stored, unexpired, sweepHeld}
 use Rattle.held.specs.Forest.{Forest, held}
 use Rattle.held.specs.Edit.{Single, Owns, sweepF}
-use Rattle.region.specs.Layout.{unitRoom}
-use Rattle.region.specs.Store.{roomAt}
+use Rattle.region.specs.Layout.{unitRoom, neededBytes}
+use Rattle.region.specs.Units.{storedOf}
+use Rattle.region.specs.Store.{roomAt, forestAt, RetainedStore}
 use Rattle.region.proofs.Instances.{records}
 use Rattle.forest.specs.Places.{unitAt}
 use Rattle.walk.specs.Height.{heightF}
@@ -39,3 +40,12 @@ pub record Removed (clock base n : ℕ) (s t : List ℕ) (r : ℕ) : Type 0 wher
   pub behind : (q w : ℕ) → unitAt base n ≤ q → part q w t ≡ part q w s
   pub swept : (F : Forest Stored) → base ≡ 64 + unitRoom (roomAt s) → n ≡ be (part 16 2 s) → Holds records 2 s F → Owns Single F → heightF F ≤ 128
       → RemovedFrom clock s t r F
+
+-- a store of retained names that is swept: it is a store, it holds what had not expired, and the answer is how many went
+-- (`store-swept` of proofs/StoreLaws.antt)
+pub record StoreSwept (clock : ℕ) (s t : List ℕ) (r : ℕ) : Type 0 where
+  pub store : RetainedStore t
+  pub held-is : held (forestAt storedOf t) ≡ sweepHeld clock (held (forestAt storedOf s))
+  pub room : roomAt t ≡ roomAt s
+  pub count : r ≡ length (keep (λ (e : Filter × Stored). not (unexpired clock (e .1))) (held (forestAt storedOf s)))
+  pub framed : Framed 0 (neededBytes (roomAt s)) s t

@@ -1,3 +1,4 @@
+-- `sweep::node::begin_node` meets its contract. Assumes nothing.
 use Rattle.sweep.proofs.RowLaws.{row-begun}
 use borrow.Author.Needs.{needs}
 use Rattle.sweep.proofs.node.begin_node.Statement.{statement}
@@ -9,43 +10,33 @@ use Rattle.sweep.proofs.row.cells_at.Reads as cells-at-reads
 use Rattle.sweep.proofs.row.move_row.Reads as move-row-reads
 use Rattle.sweep.proofs.row.record_stays.Reads as record-stays-reads
 
--- src/node.rt:36:26
 add-smaller : tie.Need-add-smaller
 add-smaller c = search needs
 
--- src/node.rt:36:46
 sub-smaller : tie.Need-sub-smaller
 sub-smaller c = search needs
 
--- src/node.rt:36:9
 smaller-requires : tie.Need-smaller-requires
 smaller-requires c κs = search needs
 
--- src/node.rt:37:42
 add-record-stays : tie.Need-add-record-stays
 add-record-stays c = search needs
 
--- src/node.rt:37:9
 record-stays-requires : tie.Need-record-stays-requires
 record-stays-requires c κs = search needs
 
--- src/node.rt:38:9
 cells-at-requires : tie.Need-cells-at-requires
 cells-at-requires c κs = search needs
 
--- src/node.rt:39:35
 add-move-row : tie.Need-add-move-row
 add-move-row c = search needs
 
--- src/node.rt:39:5
 move-row-requires : tie.Need-move-row-requires
 move-row-requires c κs = search needs
 
--- src/node.rt:22:1
 same-length : tie.Need-same-length
 same-length c = search needs
 
--- src/node.rt:22:1
 returns : tie.Need-returns
 returns c = search (needs, row-begun)
 

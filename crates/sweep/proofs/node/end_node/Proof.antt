@@ -1,3 +1,4 @@
+-- `sweep::node::end_node` meets its contract. Assumes nothing.
 use Rattle.sweep.proofs.RowLaws.{ended-gone, ended-on}
 use borrow.Author.Needs.{needs}
 use Rattle.sweep.proofs.node.end_node.Statement.{statement}
@@ -6,71 +7,54 @@ use Rattle.sweep.proofs.node.end_node.Reads as reads
 use Rattle.sweep.proofs.node.end_node.Lts as lts
 use Rattle.sweep.proofs.row.put_head.Reads as put-head-reads
 
--- src/node.rt:55:29
 add-under : tie.Need-add-under
 add-under c = search needs
 
--- src/node.rt:55:29
 add-under-2 : tie.Need-add-under-2
 add-under-2 c = search needs
 
--- src/node.rt:55:17
 sub-under : tie.Need-sub-under
 sub-under c = search needs
 
--- src/node.rt:56:29
 mul-put-head : tie.Need-mul-put-head
 mul-put-head c = search needs
 
--- src/node.rt:56:22
 add-put-head : tie.Need-add-put-head
 add-put-head c = search needs
 
--- src/node.rt:56:5
 put-head-requires : tie.Need-put-head-requires
 put-head-requires c κs = search needs
 
--- src/node.rt:57:8
 add-if1 : tie.Need-add-if1
 add-if1 c = search needs
 
--- src/node.rt:58:9
 same-length : tie.Need-same-length
 same-length c = search needs
 
--- src/node.rt:58:9
 returns : tie.Need-returns
 returns c = (search needs, search (needs, ended-gone))
 
--- src/node.rt:62:16
 add-t10 : tie.Need-add-t10
 add-t10 c = search needs
 
--- src/node.rt:62:16
 add-t9 : tie.Need-add-t9
 add-t9 c = search needs
 
--- src/node.rt:63:16
 add-t15 : tie.Need-add-t15
 add-t15 c = search needs
 
--- src/node.rt:63:16
 add-t16 : tie.Need-add-t16
 add-t16 c = search needs
 
--- src/node.rt:64:16
 add-t17 : tie.Need-add-t17
 add-t17 c = search needs
 
--- src/node.rt:64:16
 add-t18 : tie.Need-add-t18
 add-t18 c = search needs
 
--- src/node.rt:49:1
 same-length-2 : tie.Need-same-length-2
 same-length-2 c = search needs
 
--- src/node.rt:49:1
 returns-2 : tie.Need-returns-2
 returns-2 c = (search needs, search (needs, ended-on))
 

@@ -1,6 +1,6 @@
+-- `sweep::row::cells_at` meets its contract. Assumes nothing.
 use denote.Ref.{now}
-use Rattle.sweep.proofs.RowLaws.{cells-level}
-use Rattle.sweep.proofs.RowLaws.{level-few}
+use Rattle.sweep.proofs.RowLaws.{level-few, cells-level}
 use borrow.Author.Needs.{needs}
 use Rattle.sweep.proofs.row.cells_at.Statement.{statement}
 use Rattle.sweep.proofs.row.cells_at.Tie as tie
@@ -9,15 +9,12 @@ use Rattle.sweep.proofs.row.cells_at.Lts as lts
 use Rattle.forest.proofs.level_at.Reads as level-at-reads
 use Rattle.region.proofs.cells_of.Reads as cells-of-reads
 
--- src/row.rt:36:9
 level-at-requires : tie.Need-level-at-requires
 level-at-requires c κs = search needs
 
--- src/row.rt:37:5
 cells-of-requires : tie.Need-cells-of-requires
 cells-of-requires c κs = search (needs, level-few)
 
--- src/row.rt:32:1
 returns : tie.Need-returns
 returns c =
     let a = c .before .before .before .args in

@@ -1,3 +1,4 @@
+-- `sweep::row::move_row` meets its contract. Assumes nothing.
 use Rattle.sweep.proofs.RowLaws.{row-moved}
 use borrow.Author.Needs.{needs}
 use Rattle.sweep.proofs.row.move_row.Statement.{statement}
@@ -7,67 +8,51 @@ use Rattle.sweep.proofs.row.move_row.Lts as lts
 use Rattle.lent.proofs.close_gap.Reads as close-gap-reads
 use Rattle.lent.proofs.fill.Reads as fill-reads
 
--- src/row.rt:45:21
 mul-at : tie.Need-mul-at
 mul-at c = search needs
 
--- src/row.rt:45:14
 add-at : tie.Need-add-at
 add-at c = search needs
 
--- src/row.rt:46:33
 mul-close-gap : tie.Need-mul-close-gap
 mul-close-gap c = search needs
 
--- src/row.rt:46:28
 add-close-gap : tie.Need-add-close-gap
 add-close-gap c = search needs
 
--- src/row.rt:46:44
 sub-close-gap : tie.Need-sub-close-gap
 sub-close-gap c = search needs
 
--- src/row.rt:46:43
 mul-close-gap-2 : tie.Need-mul-close-gap-2
 mul-close-gap-2 c = search needs
 
--- src/row.rt:46:5
 close-gap-requires : tie.Need-close-gap-requires
 close-gap-requires c κs = search needs
 
--- src/row.rt:47:19
 add-fill : tie.Need-add-fill
 add-fill c = search needs
 
--- src/row.rt:47:31
 cast-fill : tie.Need-cast-fill
 cast-fill c = search needs
 
--- src/row.rt:47:5
 fill-requires : tie.Need-fill-requires
 fill-requires c κs = search needs
 
--- src/row.rt:48:19
 add-fill-2 : tie.Need-add-fill-2
 add-fill-2 c = search needs
 
--- src/row.rt:48:19
 add-fill-3 : tie.Need-add-fill-3
 add-fill-3 c = search needs
 
--- src/row.rt:48:32
 sub-fill : tie.Need-sub-fill
 sub-fill c = search needs
 
--- src/row.rt:48:5
 fill-requires-2 : tie.Need-fill-requires-2
 fill-requires-2 c κs = search needs
 
--- src/row.rt:41:1
 same-length : tie.Need-same-length
 same-length c = search needs
 
--- src/row.rt:41:1
 returns : tie.Need-returns
 returns c = search (needs, row-moved)
 

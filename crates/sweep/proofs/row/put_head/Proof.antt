@@ -1,3 +1,4 @@
+-- `sweep::row::put_head` meets its contract. Assumes nothing.
 use Rattle.sweep.proofs.RowLaws.{head-put}
 use borrow.Author.Needs.{needs}
 use Rattle.sweep.proofs.row.put_head.Statement.{statement}
@@ -6,27 +7,21 @@ use Rattle.sweep.proofs.row.put_head.Reads as reads
 use Rattle.sweep.proofs.row.put_head.Lts as lts
 use Rattle.lent.proofs.put16.Reads as put16-reads
 
--- src/row.rt:56:20
 add-put16 : tie.Need-add-put16
 add-put16 c = search needs
 
--- src/row.rt:56:5
 put16-requires : tie.Need-put16-requires
 put16-requires c κs = search needs
 
--- src/row.rt:57:20
 add-put16-2 : tie.Need-add-put16-2
 add-put16-2 c = search needs
 
--- src/row.rt:57:5
 put16-requires-2 : tie.Need-put16-requires-2
 put16-requires-2 c κs = search needs
 
--- src/row.rt:52:1
 same-length : tie.Need-same-length
 same-length c = search needs
 
--- src/row.rt:52:1
 returns : tie.Need-returns
 returns c = search (needs, head-put)
 

@@ -1,3 +1,4 @@
+-- `sweep::row::record_stays` meets its contract. Assumes nothing.
 use Rattle.sweep.proofs.RowLaws.{stays-lasting, stays-over, stays-yet}
 use borrow.Author.Needs.{needs}
 use Rattle.sweep.proofs.row.record_stays.Statement.{statement}
@@ -6,43 +7,33 @@ use Rattle.sweep.proofs.row.record_stays.Reads as reads
 use Rattle.sweep.proofs.row.record_stays.Lts as lts
 use Rattle.lent.proofs.get64.Reads as get64-reads
 
--- src/row.rt:18:9
 returns : tie.Need-returns
 returns c = search needs
 
--- src/row.rt:20:24
 mul-place : tie.Need-mul-place
 mul-place c = search needs
 
--- src/row.rt:20:17
 add-place : tie.Need-add-place
 add-place c = search needs
 
--- src/row.rt:21:10
 add-if2 : tie.Need-add-if2
 add-if2 c = search needs
 
--- src/row.rt:21:8
 shared-slice-read-if2 : tie.Need-shared-slice-read-if2
 shared-slice-read-if2 c = search needs
 
--- src/row.rt:22:9
 returns-2 : tie.Need-returns-2
 returns-2 c = search (needs, stays-lasting)
 
--- src/row.rt:24:33
 add-get64 : tie.Need-add-get64
 add-get64 c = search needs
 
--- src/row.rt:24:9
 get64-requires : tie.Need-get64-requires
 get64-requires c κs = search needs
 
--- src/row.rt:26:9
 returns-3 : tie.Need-returns-3
 returns-3 c = search (needs, stays-over)
 
--- src/row.rt:13:1
 returns-4 : tie.Need-returns-4
 returns-4 c = search (needs, stays-yet)
 

@@ -1,3 +1,4 @@
+-- `sweep::whole::remove_expired` meets its contract. Assumes nothing.
 use Rattle.sweep.proofs.WholeLaws.{removed-all}
 use borrow.Author.Needs.{needs}
 use Rattle.sweep.proofs.whole.remove_expired.Statement.{statement}
@@ -9,27 +10,21 @@ use Rattle.sweep.proofs.rows.sweep_rows.Reads as sweep-rows-reads
 use Rattle.sweep.proofs.whole.gone.Reads as gone-reads
 use Rattle.sweep.proofs.whole.put_counts.Reads as put-counts-reads
 
--- src/whole.rt:36:9
 get16-requires : tie.Need-get16-requires
 get16-requires c κs = search needs
 
--- src/whole.rt:37:9
 sweep-rows-requires : tie.Need-sweep-rows-requires
 sweep-rows-requires c κs = search needs
 
--- src/whole.rt:38:5
 put-counts-requires : tie.Need-put-counts-requires
 put-counts-requires c κs = search needs
 
--- src/whole.rt:39:5
 gone-requires : tie.Need-gone-requires
 gone-requires c κs = search needs
 
--- src/whole.rt:32:1
 same-length : tie.Need-same-length
 same-length c = search needs
 
--- src/whole.rt:32:1
 returns : tie.Need-returns
 returns c = search (needs, removed-all)
 
