@@ -1,7 +1,7 @@
 -- What is kept grows: nothing yet, one piece behind another, and the pieces of a node. Assumes nothing.
-use mathlib.Core.Path.{_≡_, refl, sym, ap, _∙_}
-use mathlib.Core.List.{List, [], _∷_, _++_, append-assoc}
-use Prim.Native.Nat.{ℕ, _+_, _-_, _*_, _≤_, _<_}
+use mathlib.Core.Path.{_≡_, refl, ap, _∙_}
+use mathlib.Core.List.{List, _∷_, _++_, append-assoc}
+use Prim.Native.Nat.{ℕ, _+_, _-_, _*_, _≤_}
 use native.Mathlib.Omega.{arith}
 use lib.ListN.{length, replicate}
 use Rattle.lent.specs.Parts.{part}
@@ -10,7 +10,7 @@ use Rattle.lent.proofs.Turns.{part-none}
 use Rattle.held.specs.Order.{Level}
 use Rattle.held.specs.Room.{levelCells}
 use Rattle.held.specs.Retained.{Stored}
-use Rattle.held.specs.Forest.{Forest, leaf, fork, held}
+use Rattle.held.specs.Forest.{Forest, fork, held}
 use Rattle.held.specs.Edit.{weighF, sizeF, cellsF}
 use Rattle.region.specs.Layout.{rowUnits, unitsF, rowBytes, unitBytes, marksOf}
 use Rattle.region.specs.Units.{storedBytes}

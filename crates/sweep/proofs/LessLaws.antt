@@ -10,7 +10,7 @@ use Rattle.held.specs.Ascending.{All, keep}
 use Rattle.held.specs.Forest.{Forest, leaf, fork}
 use Rattle.held.specs.Edit.{pruned, sweepF, weighF}
 use Rattle.held.proofs.Bounds.{length-keep}
-use Rattle.region.specs.Layout.{levelUnits, rowUnits, unitsF}
+use Rattle.region.specs.Layout.{levelUnits, unitsF}
 use Rattle.region.specs.Forms.{Fits, leaf-fits, fork-fits}
 use Rattle.forest.proofs.StandsLaws.{fork-units, fits-fork}
 

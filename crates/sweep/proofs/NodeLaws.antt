@@ -1,40 +1,38 @@
 -- One node of the pass, in the words of the code: where it writes, and that what stays of it stands there. Assumes nothing.
 use mathlib.Core.Path.{_≡_, refl, sym, ap, subst, _∙_}
 use mathlib.Core.Bool.{Bool, true, false, cond}
-use mathlib.Core.List.{List, [], _∷_, _++_, append-assoc}
-use Prim.Native.Nat.{ℕ, suc, _+_, _-_, _*_, _/_, _≤_, _<_, min, max}
+use mathlib.Core.List.{List, [], _∷_, _++_}
+use Prim.Native.Nat.{ℕ, _+_, _-_, _*_, _≤_, _<_}
 use native.Mathlib.Omega.{arith}
 use lib.Dec.{eqb}
 use borrow.Author.Tests.{eqb-true, eqb-false}
 use lib.ListN.{length, replicate, length-replicate, length-append}
 use Rattle.lent.specs.Numbers.{bytes}
 use Rattle.lent.specs.Parts.{part, patch}
-use Rattle.lent.proofs.Parts.{part-patch, part-patch-before, part-patch-after, length-part, length-patch}
+use Rattle.lent.proofs.Parts.{part-patch, part-patch-before, part-patch-after, length-part}
 use Rattle.lent.proofs.Digits.{length-bytes}
 use Rattle.held.specs.Order.{Level}
 use Rattle.held.specs.Bytes.{each}
 use Rattle.held.specs.Room.{levelCells}
 use Rattle.held.specs.Ascending.{All, keep}
 use Rattle.held.specs.Retained.{Stored, unexpired}
-use Rattle.held.specs.Forest.{Forest, leaf, fork, held}
-use Rattle.held.specs.Edit.{pruned, sweepF, Single, sizeF, cellsF}
+use Rattle.held.specs.Forest.{Forest, fork}
+use Rattle.held.specs.Edit.{pruned, sweepF, Single}
 use Rattle.region.specs.Layout.{levelUnits, rowUnits, unitsF, headBytes, levelBytes, rowBytes, unitBytes, marksOf}
 use Rattle.region.specs.Units.{storedBytes, storedOf}
-use Rattle.region.specs.Forms.{Form}
 use Rattle.region.proofs.Instances.{records, SmallStored}
-use Rattle.region.proofs.Decoded.{length-head, length-level, length-each}
+use Rattle.region.proofs.Decoded.{length-level, length-each}
 use Rattle.forest.specs.declared.Row.{Row}
-use Rattle.forest.specs.Places.{unitAt, levelIn, RowAt}
+use Rattle.forest.specs.Places.{unitAt, RowAt}
 use Rattle.forest.specs.Stands.{Stands}
 use Rattle.forest.proofs.StandsLaws.{fork-units, fits-fork, stands-len, stands-level, stands-end, stands-past, stands-kids}
-use Rattle.walk.specs.Height.{heightF}
 use Rattle.walk.proofs.Heights.{height-fork}
 use Rattle.sweep.specs.declared.Kept.{Kept}
 use Rattle.sweep.specs.Touched.{Touched}
 use Rattle.sweep.specs.declared.Stay.{Stay}
-use Rattle.sweep.specs.Moved.{oneIf, StaysAt, rowMoved, Begun, ended}
+use Rattle.sweep.specs.Moved.{oneIf, rowMoved, Begun, ended}
 use Rattle.sweep.specs.Swept.{Sweepable, Grown, NodeSwept, Wholly, RowsSwept}
-use Rattle.sweep.proofs.TouchedLaws.{touched-same, touched-trans, touched-wider, touched-marks, touched-units, touched-stands}
+use Rattle.sweep.proofs.TouchedLaws.{touched-trans, touched-wider, touched-marks, touched-units, touched-stands}
 use Rattle.sweep.proofs.PieceLaws.{head-told, pruned-gone, pruned-stays, unit-part, row-kept}
 use Rattle.sweep.proofs.GrownLaws.{grown-none, grown-node}
 

@@ -2,14 +2,14 @@
 use mathlib.Core.Path.{_≡_, refl, sym, ap, subst, _∙_}
 use mathlib.Core.Bool.{Bool, true, false, cond}
 use mathlib.Core.List.{List, [], _∷_, _++_, append-assoc, append-nil}
-use Prim.Native.Nat.{ℕ, zero, suc, _+_, _-_, _*_, _≤_, _<_}
+use Prim.Native.Nat.{ℕ, _+_, _-_, _*_, _≤_}
 use native.Mathlib.Omega.{arith}
 use native.Mathlib.Nat.{add-zero}
-use lib.ListN.{length, take, drop, length-append}
+use lib.ListN.{length, length-append}
 use lib.Seq.{take-at, drop-at}
 use Rattle.lent.specs.Numbers.{bytes}
 use Rattle.lent.specs.Parts.{part, patch}
-use Rattle.lent.proofs.Parts.{part-add, part-part, part-patch, part-patch-before, part-patch-after, length-part}
+use Rattle.lent.proofs.Parts.{part-add, part-part, part-patch, part-patch-before, part-patch-after}
 use Rattle.lent.proofs.Digits.{length-bytes}
 use Rattle.held.specs.Order.{Level}
 use Rattle.held.specs.Bytes.{each}
@@ -22,7 +22,6 @@ use Rattle.region.proofs.Decoded.{length-head, length-level, length-each, lengt
 use Rattle.forest.specs.Places.{unitAt}
 use Rattle.forest.specs.Stands.{Stands}
 use Rattle.forest.proofs.StandsLaws.{fork-units}
-use Rattle.sweep.specs.Moved.{oneIf}
 
 -- a beginning of what stands at a place
 pub part-front : (p w : ℕ) (x y s : List ℕ) (m : ℕ) → m ≤ w → length x ≡ m → part p w s ≡ x ++ y → part p m s ≡ x

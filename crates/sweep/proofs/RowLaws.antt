@@ -1,11 +1,11 @@
 -- One row of a sweep, in the words of the code: whether its record stays, its units moved down, its head put right. Assumes nothing.
-use mathlib.Core.Path.{_≡_, refl, sym, ap, _∙_}
-use mathlib.Core.Bool.{true, false, cond}
-use mathlib.Core.List.{List, [], _∷_, _++_}
+use mathlib.Core.Path.{_≡_, sym, ap, _∙_}
+use mathlib.Core.Bool.{true, false}
+use mathlib.Core.List.{List, _∷_, _++_}
 use Prim.Native.Nat.{ℕ, _+_, _-_, _*_, _/_, _≤_, _<_, min}
 use native.Mathlib.Omega.{arith}
 use lib.Dec.{eqb, leb}
-use lib.ListN.{length, take, drop, getD, replicate, length-replicate}
+use lib.ListN.{length, drop, getD, replicate, length-replicate}
 use lib.Seq.{getD-drop, getD-take}
 use borrow.Author.Tests.{eq-eqb, ne-eqb, le-leb, lt-leb}
 use Rattle.lent.specs.Numbers.{bytes, be}
@@ -15,7 +15,6 @@ use Rattle.lent.proofs.Parts.{part-part, length-part, length-patch}
 use Rattle.lent.proofs.Digits.{length-bytes}
 use Rattle.lent.proofs.Anywhere.{read-in, close-in}
 use Rattle.held.specs.Room.{levelCells}
-use Rattle.held.specs.Retained.{unexpired}
 use Rattle.region.specs.Units.{storedOf}
 use Rattle.forest.specs.declared.Row.{Row}
 use Rattle.forest.specs.Places.{unitAt, lenAt, levelIn, RowAt}
@@ -23,7 +22,7 @@ use Rattle.room.proofs.Middle.{first-written, then-written}
 use Rattle.room.proofs.RunLaws.{row-marked}
 use Rattle.sweep.specs.declared.Kept.{Kept}
 use Rattle.sweep.specs.declared.Stay.{Stay}
-use Rattle.sweep.specs.Moved.{oneIf, StaysAt, rowMoved, Begun, ended}
+use Rattle.sweep.specs.Moved.{StaysAt, rowMoved, Begun, ended}
 
 -- the record of a unit
 module _ (clock base : ℕ) (s : List ℕ) (at end : ℕ) (some : at < end) (within : unitAt base end ≤ length s) where

@@ -1,28 +1,27 @@
 -- A store of retained names stays one when it is swept, and holds what a sweep of what it held leaves. Assumes nothing.
-use mathlib.Core.Path.{_≡_, refl, sym, ap, subst, _∙_}
-use mathlib.Core.List.{List, [], _∷_, _++_}
+use mathlib.Core.Path.{_≡_, refl, sym, ap, _∙_}
+use mathlib.Core.List.{List, _++_}
 use mathlib.Core.Option.{Option, none, some}
-use Prim.Native.Nat.{ℕ, _+_, _*_, _%_, _^_, _≤_, _<_}
+use Prim.Native.Nat.{ℕ, _+_, _%_, _^_, _≤_, _<_}
 use native.Mathlib.Omega.{arith}
 use lib.ListN.{length, take, drop, length-drop}
 use lib.Seq.{take-all}
 use Rattle.lent.specs.Numbers.{bytes, be}
-use Rattle.lent.specs.Parts.{part, Framed}
+use Rattle.lent.specs.Parts.{part}
 use Rattle.lent.proofs.Digits.{be-bytes, bytes-mod}
 use Rattle.topic.specs.Rules.{nameRules}
 use Rattle.held.specs.Order.{Filter}
 use Rattle.held.specs.Ascending.{All}
-use Rattle.held.specs.Retained.{Stored, unexpired, sweepHeld}
+use Rattle.held.specs.Retained.{Stored, unexpired}
 use Rattle.held.specs.Forest.{Forest, held}
 use Rattle.held.specs.Edit.{WellNamed, sweepF}
 use Rattle.held.proofs.Entries.{all-with}
 use Rattle.held.proofs.Names.{sweep-well, sweep-held, keep-held}
-use Rattle.region.specs.Layout.{unitRoom, neededBytes}
+use Rattle.region.specs.Layout.{neededBytes}
 use Rattle.region.specs.Units.{momentBytes, storedBytes, storedOf}
 use Rattle.region.specs.Shapes.{UnitsOf}
 use Rattle.region.specs.Store.{roomAt, forestAt, Accepts, RetainedStore}
 use Rattle.region.proofs.Instances.{records, SmallMoment, SmallStored}
-use Rattle.forest.specs.Places.{unitAt}
 use Rattle.walk.specs.Height.{heightF}
 use Rattle.walk.proofs.HeldHeights.{height-held, Short}
 use Rattle.change.specs.Holds.{Holds}

@@ -1,10 +1,10 @@
 -- Bytes that differ in some units and their marks alone: one change after another, and what stands behind them. Assumes nothing.
-use mathlib.Core.Path.{_≡_, refl, sym, ap, _∙_}
+use mathlib.Core.Path.{refl, _∙_}
 use mathlib.Core.List.{List}
 use Prim.Native.Nat.{ℕ, _+_, _*_, _≤_}
 use native.Mathlib.Omega.{arith}
 use lib.ListN.{length}
-use Rattle.lent.specs.Parts.{part, patch}
+use Rattle.lent.specs.Parts.{patch}
 use Rattle.lent.proofs.Parts.{length-patch, part-patch-before, part-patch-after}
 use Rattle.held.specs.Forest.{Forest}
 use Rattle.region.specs.Layout.{unitsF}

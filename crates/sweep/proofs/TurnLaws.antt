@@ -1,9 +1,8 @@
 -- The loop along a row, in the words of the code: before the first turn, a turn, and after the last. Assumes nothing.
-use mathlib.Core.Path.{_≡_, refl, sym, ap, subst, _∙_}
-use mathlib.Core.List.{List, [], _∷_, _++_, append-nil}
-use Prim.Native.Nat.{ℕ, suc, _+_, _-_, _*_, _≤_, _<_, max}
+use mathlib.Core.Path.{_≡_, refl, sym, ap, _∙_}
+use mathlib.Core.List.{List, append-nil}
+use Prim.Native.Nat.{ℕ, _+_, _-_, _*_, _≤_, _<_}
 use native.Mathlib.Omega.{arith}
-use native.Mathlib.Nat.{add-zero, zero-add}
 use lib.ListN.{length}
 use Rattle.lent.specs.Parts.{part}
 use Rattle.lent.proofs.Parts.{length-part}
@@ -11,17 +10,15 @@ use Rattle.lent.proofs.Turns.{part-none}
 use Rattle.held.specs.Ascending.{keep}
 use Rattle.held.specs.Retained.{Stored, unexpired}
 use Rattle.held.specs.Forest.{Forest, leaf, fork, held}
-use Rattle.held.specs.Edit.{pruned, sweepF, weighF, sizeF, cellsF}
+use Rattle.held.specs.Edit.{pruned, sweepF, weighF}
 use Rattle.region.specs.Layout.{rowUnits, unitsF, unitBytes, marksOf}
 use Rattle.region.specs.Units.{storedBytes}
 use Rattle.region.proofs.Instances.{records}
 use Rattle.forest.specs.declared.Row.{Row}
 use Rattle.forest.specs.Places.{unitAt, RowAt}
 use Rattle.forest.proofs.StandsLaws.{fork-units, length-marks, stands-past, stands-next}
-use Rattle.walk.specs.Height.{heightF}
 use Rattle.walk.proofs.Heights.{height-fork, no-height}
 use Rattle.sweep.specs.declared.Kept.{Kept}
-use Rattle.sweep.specs.Touched.{Touched}
 use Rattle.sweep.specs.Swept.{Sweepable, Grown, NodeSwept, noneTo, Rest, SweptTo, Wholly, RowsSwept}
 use Rattle.sweep.proofs.TouchedLaws.{touched-same, touched-trans, touched-wider, touched-stands}
 use Rattle.sweep.proofs.GrownLaws.{grown-none, grown-trans}

@@ -1,10 +1,10 @@
 -- A whole region swept: where it is written, and that it holds what a sweep of its forest leaves. Assumes nothing.
-use mathlib.Core.Path.{_≡_, refl, sym, ap, subst, _∙_}
+use mathlib.Core.Path.{_≡_, sym, ap, subst, _∙_}
 use mathlib.Core.Bool.{true, not}
-use mathlib.Core.List.{List, [], _∷_, _++_, append-assoc}
-use Prim.Native.Nat.{ℕ, _+_, _-_, _*_, _≤_, _<_}
+use mathlib.Core.List.{List, _∷_, _++_, append-assoc}
+use Prim.Native.Nat.{ℕ, _+_, _-_, _*_, _≤_}
 use native.Mathlib.Omega.{arith}
-use lib.ListN.{length, take, drop, length-append}
+use lib.ListN.{length, drop, length-append}
 use Rattle.lent.specs.Numbers.{bytes, be}
 use Rattle.lent.specs.Parts.{part, Framed}
 use Rattle.lent.specs.Total.{read, write}
@@ -14,28 +14,26 @@ use Rattle.lent.proofs.Anywhere.{write-framed}
 use Rattle.held.specs.Order.{Filter}
 use Rattle.held.specs.Ascending.{keep}
 use Rattle.held.specs.Room.{Room, inRange, nodeCount, cellCount, levelCells}
-use Rattle.held.specs.Retained.{Stored, unexpired, sweepHeld}
+use Rattle.held.specs.Retained.{Stored, unexpired}
 use Rattle.held.specs.Forest.{Forest, held}
-use Rattle.held.specs.Edit.{Single, Owns, WellNamed, sweepF, sizeF, cellsF}
+use Rattle.held.specs.Edit.{Single, Owns, WellNamed, sweepF}
 use Rattle.held.proofs.Counts.{node-count, cell-count}
 use Rattle.held.proofs.Lengths.{length-sweep}
 use Rattle.held.proofs.Names.{sweep-well, sweep-held}
-use Rattle.region.specs.Layout.{unitRoom, neededBytes, unitsF, unitBytes, marksOf, Used, headerBytes}
+use Rattle.region.specs.Layout.{unitRoom, neededBytes, unitsF, unitBytes, Used, headerBytes}
 use Rattle.region.specs.Store.{roomAt, usedBy, WrittenIn}
 use Rattle.region.specs.Units.{storedBytes}
-use Rattle.region.proofs.Instances.{records, SmallStored}
+use Rattle.region.proofs.Instances.{records}
 use Rattle.region.proofs.Sizes.{length-header}
 use Rattle.region.proofs.Stores.{header-room}
 use Rattle.region.proofs.CountLaws.{pairs-kept}
 use Rattle.forest.specs.Places.{unitAt}
-use Rattle.forest.specs.Stands.{Stands}
 use Rattle.room.proofs.Middle.{write-mid}
 use Rattle.walk.specs.Height.{heightF}
 use Rattle.change.specs.Holds.{Holds}
 use Rattle.change.proofs.ViewLaws.{split-at, replaced}
 use Rattle.change.proofs.StoreLaws.{used-is}
 use Rattle.sweep.specs.declared.Kept.{Kept}
-use Rattle.sweep.specs.Touched.{Touched}
 use Rattle.sweep.specs.Swept.{Sweepable, Wholly, RowsSwept}
 use Rattle.sweep.specs.Removed.{countsPut, RemovedFrom, Removed}
 use Rattle.sweep.proofs.LessLaws.{weigh-sweep, fits-sweep}

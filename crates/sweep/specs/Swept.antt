@@ -10,7 +10,7 @@ use Rattle.held.specs.Ascending.{keep}
 use Rattle.held.specs.Retained.{Stored, unexpired}
 use Rattle.held.specs.Forest.{Forest, fork, held}
 use Rattle.held.specs.Edit.{pruned, sweepF, Single, Owns, sizeF, cellsF}
-use Rattle.region.specs.Layout.{unitBytes, marksOf, unitsF, rowUnits}
+use Rattle.region.specs.Layout.{unitBytes, marksOf, unitsF}
 use Rattle.region.specs.Units.{storedBytes}
 use Rattle.region.proofs.Instances.{SmallStored}
 use Rattle.forest.specs.Places.{unitAt}
@@ -25,7 +25,7 @@ pub record Sweepable (base : ℕ) (s : List ℕ) (d lo hi : ℕ) (F : Forest Sto
   pub single : Owns Single F
   pub low : heightF F + d ≤ 129
 
--- before G, what stood from unit `a.to` on is now F before G: its units, marks, nodes, pairs and cells, where a is what was kept before, and b after
+-- a is what was kept before, b what is kept now: what stands between the two, with G behind it, is F; and so are the counts
 pub record Grown (base : ℕ) (t : List ℕ) (d : ℕ) (a b : Kept) (G F : Forest Stored) : Type 0 where
   pub units : part (unitAt base (a .to)) ((b .to - a .to) * 16) t ++ unitBytes storedBytes G ≡ unitBytes storedBytes F
   pub marks : part (64 + a .to) (b .to - a .to) t ++ marksOf d G ≡ marksOf d F
@@ -48,12 +48,13 @@ pub record NodeSwept (clock base d i hi past : ℕ) (s t : List ℕ) (a b : Kept
 abbrev pub noneTo : ℕ → Kept
 noneTo to = record { to = to; nodes = 0; pairs = 0; cells = 0 }
 
--- the rows from unit lo up to unit i of those up to unit hi, where what stays is written from unit `to` on: what is left is a forest too
+-- a pass that has come to unit i: what is left of the forest F, and that what is kept, with what a sweep leaves of the rest, is what it leaves of F
 pub record Rest (clock base : ℕ) (t : List ℕ) (d i hi to : ℕ) (b : Kept) (F : Forest Stored) : Type 0 where
   pub rest : Forest Stored
   pub left : Sweepable base t d i hi rest
   pub grown : Grown base t d (noneTo to) b (sweepF (unexpired clock) rest) (sweepF (unexpired clock) F)
 
+-- the rows from unit lo up to unit i, of those up to unit hi: what stays is written from unit `to` on
 pub record SweptTo (clock base d lo hi to : ℕ) (s : List ℕ) (i : ℕ) (t : List ℕ) (b : Kept) : Type 0 where
   pub begun : lo ≤ i
   pub within : i ≤ hi
