@@ -1,0 +1,10 @@
+pub mod RowLaws
+pub mod CountLaws
+pub mod TouchedLaws
+pub mod PieceLaws
+pub mod GrownLaws
+pub mod NodeLaws
+pub mod TurnLaws
+pub mod LessLaws
+pub mod WholeLaws
+pub mod StoreLaws

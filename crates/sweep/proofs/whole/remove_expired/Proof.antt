@@ -1,0 +1,40 @@
+-- `sweep::whole::remove_expired` meets its contract. Assumes nothing.
+use Rattle.sweep.proofs.WholeLaws.{removed-all}
+use borrow.Author.Needs.{needs}
+use Rattle.sweep.proofs.whole.remove_expired.Statement.{statement}
+use Rattle.sweep.proofs.whole.remove_expired.Tie as tie
+use Rattle.sweep.proofs.whole.remove_expired.Reads as reads
+use Rattle.sweep.proofs.whole.remove_expired.Lts as lts
+use Rattle.lent.proofs.get16.Reads as get16-reads
+use Rattle.sweep.proofs.rows.sweep_rows.Reads as sweep-rows-reads
+use Rattle.sweep.proofs.whole.gone.Reads as gone-reads
+use Rattle.sweep.proofs.whole.put_counts.Reads as put-counts-reads
+
+get16-requires : tie.Need-get16-requires
+get16-requires c κs = search needs
+
+sweep-rows-requires : tie.Need-sweep-rows-requires
+sweep-rows-requires c κs = search needs
+
+put-counts-requires : tie.Need-put-counts-requires
+put-counts-requires c κs = search needs
+
+gone-requires : tie.Need-gone-requires
+gone-requires c κs = search needs
+
+same-length : tie.Need-same-length
+same-length c = search needs
+
+returns : tie.Need-returns
+returns c = search (needs, removed-all)
+
+pub remove-expired-spec : {M : Type 1} → statement M
+remove-expired-spec =
+    tie.close
+    (tie.spec
+    get16-requires
+    sweep-rows-requires
+    put-counts-requires
+    gone-requires
+    same-length
+    returns)

@@ -1,0 +1,4 @@
+pub mod Touched
+pub mod Moved
+pub mod Swept
+pub mod Removed
