@@ -8,6 +8,7 @@ pub mod HeaderLaws
 pub mod HoldsLaws
 pub mod PlaceLaws
 pub mod EditLaws
+pub mod SwapLaws
 pub mod CutLaws
 pub mod FoundLaws
 pub mod StoreLaws

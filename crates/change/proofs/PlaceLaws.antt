@@ -150,10 +150,10 @@ replicate-add (suc m) n x =
     rw z (ap (λ (l : List ℕ). x ∷ l) (replicate-add m n x))
 
 module _ {X : Type 0} (u : Form X) (w : Way X) (t : Level) (a b : List X) (k n : Forest X) where
-  abbrev lead : ℕ → ℕ → List ℕ
+  abbrev pub lead : ℕ → ℕ → List ℕ
   lead c own = front (u .write) w c ++ (headBytes t own (unitsF k) ++ (levelBytes t ++ each (u .write) a))
 
-  abbrev trail : List ℕ
+  abbrev pub trail : List ℕ
   trail = each (u .write) b ++ ((unitBytes (u .write) k ++ unitBytes (u .write) n) ++ behind (u .write) w)
 
   abbrev markLead : List ℕ
