@@ -11,18 +11,19 @@ use Rattle.lent.proofs.Digits.{be-bytes, bytes-mod}
 use Rattle.topic.specs.Rules.{filterRules, nameRules}
 use Rattle.held.specs.Order.{Filter}
 use Rattle.held.specs.Ascending.{All}
+use Rattle.held.specs.Retained.{Stored}
 use Rattle.held.specs.Forest.{Forest, leaf, held, Rows}
-use Rattle.held.specs.Edit.{Full, WellFormed}
+use Rattle.held.specs.Edit.{Full, WellFormed, WellNamed}
 use Rattle.region.specs.Layout.{unitRoom, unitsF, unitBytes}
-use Rattle.region.specs.Units.{valueBytes, valueOf}
+use Rattle.region.specs.Units.{valueBytes, valueOf, momentBytes, storedBytes, storedOf}
 use Rattle.region.specs.Forms.{Form, Fits}
 use Rattle.region.specs.Decode.{decode}
-use Rattle.region.specs.Store.{roomAt, forestAt, usedBy, WrittenIn, Accepts, SubscriptionStore}
+use Rattle.region.specs.Store.{roomAt, forestAt, usedBy, WrittenIn, Accepts, SubscriptionStore, RetainedStore}
 use Rattle.region.proofs.Sizes.{few-units}
 use Rattle.region.proofs.Stores.{header-field, units-read, units-fit}
 use Rattle.region.proofs.Decoded.{decode-units}
 use Rattle.region.proofs.Fitted.{fits-back}
-use Rattle.region.proofs.Instances.{values}
+use Rattle.region.proofs.Instances.{values, records, SmallMoment, SmallStored}
 use Rattle.change.specs.Holds.{Holds}
 
 -- the units that a header tells of are those of the forest
@@ -42,13 +43,20 @@ module _ {X : Type 0} (u : Form X) (kind : ℕ) (s : List ℕ) (F : Forest X) (w
   pub holds-of : ((x : X) → u .read (u .write x) ≡ x → u .Small x) → forestAt (u .read) s ≡ F → Holds u kind s F
   holds-of back e = record { written = w; rows = rows; full = full; fits = fits-back u back F units-few (sym decoded ∙ e) }
 
--- a value that is read back is small
+-- a number that is read back from its bytes fits them
+four : (x : ℕ) → be (bytes 4 x) ≡ x → x < 256 ^ 4
+four x e =
+    let z : be (bytes 4 x) ≡ x % 4294967296 = ap be (sym (bytes-mod 4 x)) ∙ be-bytes 4 (x % 4294967296) (omega arith) in
+    omega (arith, z, e)
+
+eight : (x : ℕ) → be (bytes 8 x) ≡ x → x < 256 ^ 8
+eight x e =
+    let z : be (bytes 8 x) ≡ x % 18446744073709551616 = ap be (sym (bytes-mod 8 x)) ∙ be-bytes 8 (x % 18446744073709551616) (omega arith) in
+    omega (arith, z, e)
+
 value-small : (v : ℕ) → valueOf (valueBytes v) ≡ v → v < 256 ^ 4
 unfolding valueOf valueBytes bytes part
-value-small v e =
-    let z : be (bytes 4 v) ≡ v % 4294967296 = ap be (sym (bytes-mod 4 v)) ∙ be-bytes 4 (v % 4294967296) (omega arith) in
-    let y : be (bytes 4 v) ≡ v = e in
-    omega (arith, z, y)
+value-small v e = four v e
 
 -- a store of subscriptions holds its forest
 pub store-holds : (s : List ℕ) → SubscriptionStore s → Holds values 1 s (forestAt valueOf s)
@@ -59,4 +67,29 @@ pub holds-store : (s : List ℕ) (F : Forest ℕ) → Holds values 1 s F → Wel
     → SubscriptionStore s × (forestAt valueOf s ≡ F)
 holds-store s F h w t =
     let e : forestAt valueOf s ≡ F = forest-is values 1 s F (h .written) (h .rows) (h .full) (h .fits) in
+    (record { written = rw e (h .written); well = rw e w; texts = rw e t }, e)
+
+-- a record that is read back is small
+abbrev orNone : Option ℕ → ℕ
+orNone none = 0
+orNone (some m) = m
+
+moment-small : (h : ℕ) (m : Option ℕ) → _≡_ {A = Stored} (storedOf (bytes 4 h ++ momentBytes m)) (record { handle = h; moment = m }) → (h < 256 ^ 4) × SmallMoment m
+unfolding storedOf bytes part
+moment-small h none e = (four h (ap (λ (s : Stored). s .handle) e), tt)
+moment-small h (some m) e = (four h (ap (λ (s : Stored). s .handle) e), eight m (ap (λ (s : Stored). orNone (s .moment)) e))
+
+pub stored-small : (x : Stored) → storedOf (storedBytes x) ≡ x → SmallStored x
+unfolding storedBytes
+stored-small x e = let p = moment-small (x .handle) (x .moment) e in record { handle = p .0; moment = p .1 }
+
+-- a store of retained names holds its forest
+pub retained-holds : (s : List ℕ) → RetainedStore s → Holds records 2 s (forestAt storedOf s)
+retained-holds s w = holds-of records 2 s (forestAt storedOf s) (w .written) (w .well .rows) (w .well .full) stored-small refl
+
+-- and a region that holds a well-formed forest with accepted names is a store
+pub holds-retained : (s : List ℕ) (F : Forest Stored) → Holds records 2 s F → WellNamed F → All (λ (e : Filter × Stored). Accepts nameRules (e .0)) (held F)
+    → RetainedStore s × (forestAt storedOf s ≡ F)
+holds-retained s F h w t =
+    let e : forestAt storedOf s ≡ F = forest-is records 2 s F (h .written) (h .rows) (h .full) (h .fits) in
     (record { written = rw e (h .written); well = rw e w; texts = rw e t }, e)

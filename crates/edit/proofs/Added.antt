@@ -7,6 +7,7 @@ use Prim.Native.Nat.{ℕ, zero, suc, _+_, _-_, _≤_, _<_}
 use native.Mathlib.Omega.{arith}
 use lib.Dec.{eqb}
 use lib.ListN.{length, take, drop, length-append, length-take}
+use Rattle.lent.specs.Parts.{patch}
 use Rattle.level.specs.Levels.{push, split}
 use Rattle.level.specs.Places.{first, levelsAt, endOf}
 use Rattle.level.proofs.Split.{split-cons, after}
@@ -21,6 +22,7 @@ use Rattle.region.specs.Layout.{unitRoom, levelUnits, unitsF}
 use Rattle.region.specs.Forms.{Form}
 use Rattle.region.specs.Store.{roomAt}
 use Rattle.region.specs.Shapes.{UnitsOf}
+use Rattle.forest.specs.Places.{unitAt}
 use Rattle.forest.specs.Paths.{nodesAt, spotAt}
 use Rattle.seek.specs.declared.Path.{Path}
 use Rattle.seek.specs.PathFound.{PathFound}
@@ -34,6 +36,7 @@ use Rattle.change.specs.Reach.{Reach}
 use Rattle.change.proofs.ReachLaws.{Reached, reach, reach-missing}
 use Rattle.change.proofs.EditLaws.{Becomes, Short}
 use Rattle.change.proofs.PathEdits.{unit-reached, unit-units, chain-reached, chain-units}
+use Rattle.change.proofs.SwapLaws.{swap-reached}
 use Rattle.edit.specs.Adding.{fitting}
 use Rattle.edit.proofs.LastLaws.{Last}
 use Rattle.edit.proofs.KnownPath.{base-is, all-is, stands, path, last, node-is, downs-are}
@@ -92,6 +95,17 @@ module _ {X : Type 0} (u : Form X) (kind : ℕ) (s : List ℕ) {base n room : �
         subst (λ (t : List ℕ). Becomes u kind s t (growF e (split f) F))
         (sym (same-made (base-is u kind s units F h) (all-is u kind s units F h) (downs-are u kind s units F h f few pf q full) z (ahead (l .way) + levelUnits (l .level) + length a) (u .write x) s))
         (unit-reached u kind s e (split f) x small (l .way) (l .level) (l .kids) (l .next) a b (l .own) F all h (l .is) with ok within)
+
+  -- a unit written over
+  module _ (q : length f < p .from) (y x : X) (a b : List X) (all : last u kind s units F h f few pf q .own ≡ a ++ (y ∷ b)) (with : e (last u kind s units F h f few pf q .own) ≡ a ++ (x ∷ b)) where
+    abbrev m : Last F (split f)
+    m = last u kind s units F h f few pf q
+
+    pub unit-swapped : u .Small x → Full (growF e (split f) F) → {at : ℕ} → at ≡ ahead (m .way) + levelUnits (m .level) + length a
+        → Becomes u kind s (patch (unitAt base at) (u .write x) s) (growF e (split f) F)
+    unit-swapped small ok z =
+        rw (base-is u kind s units F h, z)
+        (swap-reached u kind s e (split f) x small (m .way) (m .level) (m .kids) (m .next) a y b (m .own) F all h (m .is) with ok)
 
   -- some nodes are missing
   module _ (q : p .from ≤ length f) (y : X) (one : e [] ≡ y ∷ []) (load : Load) (w : WantedFor (levelsAt f (p .from)) load) where

@@ -24,7 +24,7 @@ pub verdict-is : {H : Type 0} (e : Effect H) → checked (e .texts) ≡ Accepted
 unfolding verdict
 verdict-is e h = checked-append (e .texts) (e .rooms) ∙ ap (λ (v : Checked). orElse v (checked (e .rooms))) h
 
-accepted-does : {H : Type 0} (e : Effect H) (h : H) → verdict e ≡ Accepted → (outcome e ≡ answered (e .answer)) × (result e h ≡ e .after)
+pub accepted-does : {H : Type 0} (e : Effect H) (h : H) → verdict e ≡ Accepted → (outcome e ≡ answered (e .answer)) × (result e h ≡ e .after)
 unfolding outcome result
 accepted-does e h v = (ap (λ (w : Checked). outcomeOf w (e .answer)) v, ap (λ (w : Checked). cond (accepted w) (e .after) h) v)
 

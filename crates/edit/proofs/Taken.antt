@@ -102,8 +102,8 @@ module _ {X : Type 0} (u : Form X) (kind : ℕ) (s : List ℕ) {base n room : �
       inside-at : ahead (l .way) + levelUnits (l .level) + length a < n
       inside-at = omega (arith, last-inside u base s n F (stands u kind s units F h) (split f) l, ap length all, length-append a (x ∷ b))
 
-      pub unit-gone : (P : List ℕ → Changed → Type 0) → ((t : List ℕ) → Becomes u kind s t (cutF e (split f) F) → P t (Done 1)) → {node at : ℕ} → node ≡ ahead (l .way)
-          → at ≡ ahead (l .way) + levelUnits (l .level) + length a → {t : List ℕ} {r : Changed} → OneLess s base n (take (p .depth - 1) (p .nodes)) node at t r → P t r
+      pub unit-gone : (P : List ℕ → Changed → Type 0) {answer : ℕ} → ((t : List ℕ) → Becomes u kind s t (cutF e (split f) F) → P t (Done answer)) → {node at : ℕ} → node ≡ ahead (l .way)
+          → at ≡ ahead (l .way) + levelUnits (l .level) + length a → {t : List ℕ} {r : Changed} → OneLess s base n (take (p .depth - 1) (p .nodes)) node at answer t r → P t r
       unit-gone P done y z (no-units g) = absurd (omega (arith, inside-at, z))
       unit-gone P done {node} {at} y z (taken g) =
           done (takenUnit base n (take (p .depth - 1) (p .nodes)) node at s) (subst (λ (i : ℕ). Becomes u kind s (takenUnit base n (take (p .depth - 1) (p .nodes)) node i s) (cutF e (split f) F)) (sym z) (becomes-less y))
@@ -145,10 +145,10 @@ module _ {X : Type 0} (u : Form X) (kind : ℕ) (s : List ℕ) {base n room : �
             let node = fork (cut .level) (cut .own) (cut .kids) (cut .next) in
             omega (arith, all-is u kind s units F h, ap unitsF (cut-plug e (cut .is)), units-plug (cut .way) node, wide-ahead (cut .way) (unitsF node), cut-changes e (cut .is) load wanted .units-change)
 
-      pub path-gone : (P : List ℕ → Changed → Type 0) → ((t : List ℕ) → Becomes u kind s t (cutF e (split f) F) → P t (Done 1)) → {t : List ℕ} {r : Changed} → PathTaken s base n (p .nodes) (p .depth) f t r → P t r
-      path-gone P done a = go (a .load) (a .wanted) (a .takes)
+      pub path-gone : (P : List ℕ → Changed → Type 0) {answer : ℕ} → ((t : List ℕ) → Becomes u kind s t (cutF e (split f) F) → P t (Done answer)) → {t : List ℕ} {r : Changed} → PathTaken s base n (p .nodes) (p .depth) f answer t r → P t r
+      path-gone P {answer} done a = go (a .load) (a .wanted) (a .takes)
         where
           go : (load : Load) → WantedFor (levelsAt f (startOf f stay)) load → {t : List ℕ} {r : Changed}
-              → Taken s n (getD (p .nodes) stay 0 + load .units) (takenChain base n (take stay (p .nodes)) (getD (p .nodes) stay 0) load s) t r → P t r
+              → Taken s n (getD (p .nodes) stay 0 + load .units) answer (takenChain base n (take stay (p .nodes)) (getD (p .nodes) stay 0) load s) t r → P t r
           go load w (no-units g) = absurd (omega (arith, inside-run load w, at-is))
           go load w (taken g) = done (takenChain base n (take stay (p .nodes)) (getD (p .nodes) stay 0) load s) (becomes-cut load w)

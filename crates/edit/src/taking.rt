@@ -20,7 +20,7 @@ pub fn is_alone(s: &[u8], base: usize, n: usize, node: usize) -> bool
     false
 }
 
-// The nodes of a text that go with the one unit that the last of them holds.
+// The nodes of a text that go with the one unit that the last of them holds; that is answered by a number.
 pub fn take_path(
     s: &mut [u8],
     base: usize,
@@ -28,9 +28,10 @@ pub fn take_path(
     nodes: [usize; 128],
     depth: usize,
     text: &[u8],
+    answer: u64,
 ) -> Changed
     requires { ⌜ (0 < depth) × (depth ≤ 128) × Under n (take depth nodes) × (64 + n ≤ base) × (base + n * 16 ≤ length (now s)) × (length (now text) ≤ 65535) ⌝ }
-    ensures { λ r. ⌜ PathTaken (now (s .entry)) base n nodes depth (now (text .entry)) (now (s .exit)) r ⌝ }
+    ensures { λ r. ⌜ PathTaken (now (s .entry)) base n nodes depth (now (text .entry)) answer (now (s .exit)) r ⌝ }
 {
     let stay = room::stay(s, base, n, nodes, depth);
     let at = nodes[stay];
@@ -43,7 +44,7 @@ pub fn take_path(
         return Changed::Refused(Refusal::NotAStore);
     }
     room::take_chain(s, base, n, nodes, stay, at, load);
-    Changed::Done(1)
+    Changed::Done(answer)
 }
 
 // A unit that the node at unit `node` holds, where the node stays.
@@ -55,13 +56,14 @@ pub fn take_unit(
     last: usize,
     node: usize,
     at: usize,
+    answer: u64,
 ) -> Changed
     requires { ⌜ (last ≤ 128) × Under n (take last nodes) × (node < n) × (64 + n ≤ base) × (base + n * 16 ≤ length (now s)) ⌝ }
-    ensures { λ r. ⌜ OneLess (now (s .entry)) base n (take last nodes) node at (now (s .exit)) r ⌝ }
+    ensures { λ r. ⌜ OneLess (now (s .entry)) base n (take last nodes) node at answer (now (s .exit)) r ⌝ }
 {
     if n <= at {
         return Changed::Refused(Refusal::NotAStore);
     }
     room::take_unit(s, base, n, nodes, last, node, at);
-    Changed::Done(1)
+    Changed::Done(answer)
 }

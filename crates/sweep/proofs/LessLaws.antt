@@ -9,18 +9,11 @@ use Rattle.held.specs.Order.{Level}
 use Rattle.held.specs.Ascending.{All, keep}
 use Rattle.held.specs.Forest.{Forest, leaf, fork}
 use Rattle.held.specs.Edit.{pruned, sweepF, weighF}
+use Rattle.held.proofs.Entries.{all-keep}
 use Rattle.held.proofs.Bounds.{length-keep}
 use Rattle.region.specs.Layout.{levelUnits, unitsF}
 use Rattle.region.specs.Forms.{Fits, leaf-fits, fork-fits}
 use Rattle.forest.proofs.StandsLaws.{fork-units, fits-fork}
-
-pub all-keep : {E : Type 0} (P : E → Type 0) (q : E → Bool) (l : List E) → All P l → All P (keep q l)
-all-keep P q [] h = tt
-all-keep P q (e ∷ l) h = go (q e) (all-keep P q l (h .1))
-  where
-    go : (t : Bool) → All P (keep q l) → All P (cond t (e ∷ keep q l) (keep q l))
-    go true r = (h .0, r)
-    go false r = r
 
 module _ {X : Type 0} where
   units-pruned : (l : Level) (v : List X) (k n : Forest X) → unitsF (pruned l v k n) ≤ levelUnits l + length v + (unitsF k + unitsF n)

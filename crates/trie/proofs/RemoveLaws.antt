@@ -114,7 +114,7 @@ module _ (s : List ℕ) {base n room : ℕ} (units : UnitsOf s base n room) (f :
       done t c = remove-done s st f x fine is-held t c
 
       -- the only value, of a node without children
-      path-step : b ≡ true → {t : List ℕ} {r : Changed} → PathTaken s base n (p .nodes) (p .depth) f t r → Step subscriptionStore (remove f x) s t r
+      path-step : b ≡ true → {t : List ℕ} {r : Changed} → PathTaken s base n (p .nodes) (p .depth) f 1 t r → Step subscriptionStore (remove f x) s t r
       path-step z {t} {r} a =
           let c = alone-own values 1 s units F (store-holds s st) f few pf full q at (sym eb ∙ z) in
           let o = one-of (among .before) (among .after) x (sym (ap length (among .all)) ∙ c .0) in
@@ -128,14 +128,14 @@ module _ (s : List ℕ) {base n room : ℕ} (units : UnitsOf s base n room) (f :
           let c : length (here s units f few pf q full st .own) ≡ 1 = omega (arith, ap length (among .all), length-append (among .before) (x ∷ among .after), ap length u, length-append (among .before) (among .after)) in
           not-alone values 1 s units F (store-holds s st) f few pf full q at (sym eb ∙ z) c v
 
-      unit-step : b ≡ false → {t : List ℕ} {r : Changed} → OneLess s base n (take (p .depth - 1) (p .nodes)) node (slot .at) t r → Step subscriptionStore (remove f x) s t r
+      unit-step : b ≡ false → {t : List ℕ} {r : Changed} → OneLess s base n (take (p .depth - 1) (p .nodes)) node (slot .at) 1 t r → Step subscriptionStore (remove f x) s t r
       unit-step z a =
           let w : slot .at ≡ ahead (here s units f few pf q full st .way) + levelUnits (here s units f few pf q full st .level) + length (among .before) = omega (arith, ap (λ (c : Slot). c .at) (stored st), among .count) in
           unit-gone values 1 s units F (store-holds s st) f few pf full q (withoutValue x) (removed-full s st f fine x) (removed-within s st f fine x) x (among .before) (among .after) (among .all) (among .without) (others z)
           (λ (t : List ℕ) (r : Changed). Step subscriptionStore (remove f x) s t r) done (at ∙ node-is values 1 s units F (store-holds s st) f few pf q full) w a
 
-    pub gone-path : b ≡ true → {t : List ℕ} {r : Changed} → PathTaken s base n (p .nodes) (p .depth) f t r → Does subscriptionStore (remove f x) s t r
+    pub gone-path : b ≡ true → {t : List ℕ} {r : Changed} → PathTaken s base n (p .nodes) (p .depth) f 1 t r → Does subscriptionStore (remove f x) s t r
     gone-path z a = record { does = λ (st : SubscriptionStore s). path-step st z a }
 
-    pub gone-unit : b ≡ false → {t : List ℕ} {r : Changed} → OneLess s base n (take (p .depth - 1) (p .nodes)) node (slot .at) t r → Does subscriptionStore (remove f x) s t r
+    pub gone-unit : b ≡ false → {t : List ℕ} {r : Changed} → OneLess s base n (take (p .depth - 1) (p .nodes)) node (slot .at) 1 t r → Does subscriptionStore (remove f x) s t r
     gone-unit z a = record { does = λ (st : SubscriptionStore s). unit-step st z a }

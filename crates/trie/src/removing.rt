@@ -42,9 +42,9 @@ fn remove_value(
         return Changed::Done(0);
     }
     if edit::is_alone(s, base, n, node) {
-        return edit::take_path(s, base, n, nodes, depth, filter);
+        return edit::take_path(s, base, n, nodes, depth, filter, 1);
     }
-    edit::take_unit(s, base, n, nodes, last, node, slot.at)
+    edit::take_unit(s, base, n, nodes, last, node, slot.at, 1)
 }
 
 // A value of a filter of at most 128 levels.

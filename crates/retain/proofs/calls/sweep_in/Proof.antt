@@ -1,0 +1,22 @@
+use Rattle.retain.proofs.KnownLaws.{sweep-units, swept}
+use borrow.Author.Needs.{needs}
+use Rattle.retain.proofs.calls.sweep_in.Statement.{statement}
+use Rattle.retain.proofs.calls.sweep_in.Tie as tie
+use Rattle.retain.proofs.calls.sweep_in.Reads as reads
+use Rattle.retain.proofs.calls.sweep_in.Lts as lts
+use Rattle.sweep.proofs.remove_expired.Reads as remove-expired-reads
+
+-- src/calls.rt:54:9
+remove-expired-requires : tie.Need-remove-expired-requires
+remove-expired-requires c κs = search (needs, sweep-units)
+
+-- src/calls.rt:50:1
+same-length : tie.Need-same-length
+same-length c = search needs
+
+-- src/calls.rt:50:1
+returns : tie.Need-returns
+returns c = search (needs, swept)
+
+pub sweep-in-spec : {M : Type 1} → statement M
+sweep-in-spec = tie.close (tie.spec remove-expired-requires same-length returns)
