@@ -1,3 +1,3 @@
-pub mod Countings
 pub mod Openings
 pub mod Tellings
+pub mod Moments

@@ -1,6 +1,7 @@
 // The C interface. Each call returns the number of the refusal, 0 for none, and hands a value back: what it found, or the
 // place of the refusal. include/cjumbradi.h says the same to a caller in C or Rust.
 mod regions;
+mod retained;
 mod subscriptions;
 mod telling;
 mod texts;

@@ -1,18 +1,12 @@
-// The calls on regions of either kind: the bytes that one needs, opening it; and how many names a store of them holds, which is
-// told of such a store alone: the region is tested.
+// The calls on regions of either kind: the bytes that one needs, and opening it.
 ghost use mathlib.Core.Path.{_≡_};
-ghost use lib.ListN.{length};
 ghost use Rattle.refusal.specs.Refusals.{_at_};
 ghost use Rattle.topic.specs.Answers.{checked};
-ghost use Rattle.held.specs.Forest.{held};
 ghost use Rattle.region.specs.declared.Kind.the-variants.{Subscriptions, Retained};
-ghost use Rattle.region.specs.Units.{storedOf};
-ghost use Rattle.region.specs.Store.{forestAt, RetainedStore};
 ghost use Rattle.region.specs.Opening.{roomOf, neededOf, openRules, openedAs};
 ghost use Rattle.cjumbradi.specs.Calls.{ofChecked};
-ghost use Rattle.cjumbradi.specs.Regions.{roomFor, ofSize, Counts};
+ghost use Rattle.cjumbradi.specs.Regions.{roomFor, ofSize};
 use crate::telling::tell_checked;
-use crate::telling::tell_count;
 use crate::telling::tell_size;
 use region::Capacities;
 use region::Cells;
@@ -69,13 +63,4 @@ pub extern "C" fn cjumbradi_open_retained(
 {
     let opened = region::open(region, Kind::Retained, capacities(nodes, pairs, cells));
     tell_checked(opened, place)
-}
-
-// The names of a store of retained names.
-#[no_mangle]
-pub extern "C" fn cjumbradi_count(region: &[u8], value: &mut u64) -> u64
-    ensures { λ n. ⌜ Counts (RetainedStore (now (region .entry))) (length (held (forestAt storedOf (now (region .entry))))) (n at now (value .exit)) ⌝ }
-{
-    let names = region::values_size(region);
-    tell_count(audit::is_store(region, Kind::Retained), names.0, value)
 }

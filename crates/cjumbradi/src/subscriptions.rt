@@ -6,7 +6,8 @@ ghost use Rattle.held.specs.Subscriptions.{insert, remove};
 ghost use Rattle.edit.specs.Calls.{Calls};
 ghost use Rattle.trie.specs.Calls.{heldIn, subscriptionStore};
 ghost use Rattle.trie.specs.Listings.{Asks};
-ghost use Rattle.trie.specs.Sizes.{Counts};
+ghost use Rattle.region.specs.Store.{SubscriptionStore};
+ghost use Rattle.edit.specs.Counts.{Counts};
 ghost use Rattle.cjumbradi.specs.Calls.{ofMatched};
 ghost use Rattle.cjumbradi.specs.Stores.{ofChanged, ofOutcome, Tells, TellsListing};
 use crate::telling::tell_changed;
@@ -61,14 +62,14 @@ pub extern "C" fn cjumbradi_listing(
 
 #[no_mangle]
 pub extern "C" fn cjumbradi_nodes_size(region: &[u8], value: &mut u64) -> u64
-    ensures { λ n. ⌜ Tells ofOutcome (Counts (now (region .entry)) (nodeCount (heldIn (now (region .entry))))) (n at now (value .exit)) ⌝ }
+    ensures { λ n. ⌜ Tells ofOutcome (Counts (SubscriptionStore (now (region .entry))) (nodeCount (heldIn (now (region .entry))))) (n at now (value .exit)) ⌝ }
 {
     tell_nodes(trie::nodes_size(region), value)
 }
 
 #[no_mangle]
 pub extern "C" fn cjumbradi_values_size(region: &[u8], value: &mut u64) -> u64
-    ensures { λ n. ⌜ Tells ofOutcome (Counts (now (region .entry)) (length (heldIn (now (region .entry))))) (n at now (value .exit)) ⌝ }
+    ensures { λ n. ⌜ Tells ofOutcome (Counts (SubscriptionStore (now (region .entry))) (length (heldIn (now (region .entry))))) (n at now (value .exit)) ⌝ }
 {
     tell_values(trie::values_size(region), value)
 }

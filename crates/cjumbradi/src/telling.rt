@@ -2,13 +2,15 @@
 ghost use mathlib.Core.Path.{_≡_};
 ghost use Rattle.refusal.specs.Refusals.{_at_, told};
 ghost use Rattle.cjumbradi.specs.Calls.{ofChecked, ofParsed, ofMatched, ofBool, ofKind};
-ghost use Rattle.cjumbradi.specs.Regions.{ofSize, ofCount};
+ghost use Rattle.cjumbradi.specs.Regions.{ofSize};
 ghost use Rattle.trie.specs.Sizes.{nodesTold, valuesTold};
+ghost use Rattle.retain.specs.Counted.{namesTold};
 ghost use Rattle.cjumbradi.specs.Stores.{ofChanged, ofListed, recordsOf, ofOutcome};
 use edit::Changed;
 use level::Kind;
 use refusal::Refusal;
 use region::Size;
+use retain::Names;
 use topic::Checked;
 use topic::Matched;
 use topic::Parsed;
@@ -90,16 +92,6 @@ pub fn tell_size(size: Size, value: &mut u64) -> u64
     }
 }
 
-// A count of what a region holds, if it is a store.
-pub fn tell_count(store: bool, count: u64, value: &mut u64) -> u64
-    ensures { λ n. ⌜ (n at now (value .exit)) ≡ ofCount store count ⌝ }
-{
-    if store {
-        return tell_found(count, value);
-    }
-    tell_refusal(Refusal::NotAStore, value)
-}
-
 pub fn tell_changed(changed: Changed, value: &mut u64) -> u64
     ensures { λ n. ⌜ (n at now (value .exit)) ≡ ofChanged changed ⌝ }
 {
@@ -140,5 +132,14 @@ pub fn tell_values(size: ValuesSize, value: &mut u64) -> u64
     match size {
         ValuesSize::Held(pairs) => tell_found(pairs.0, value),
         ValuesSize::Refused(refusal) => tell_refusal(refusal, value),
+    }
+}
+
+pub fn tell_names(names: Names, value: &mut u64) -> u64
+    ensures { λ n. ⌜ (n at now (value .exit)) ≡ ofOutcome (namesTold names) ⌝ }
+{
+    match names {
+        Names::Held(pairs) => tell_found(pairs.0, value),
+        Names::Refused(refusal) => tell_refusal(refusal, value),
     }
 }

@@ -7,3 +7,4 @@ pub mod CallLaws
 pub mod RunLaws
 pub mod Added
 pub mod Taken
+pub mod CountLaws

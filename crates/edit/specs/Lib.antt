@@ -2,3 +2,4 @@ pub mod Calls
 pub mod Runs
 pub mod Adding
 pub mod Taking
+pub mod Counts

@@ -5,3 +5,4 @@ pub mod StepLaws
 pub mod SetLaws
 pub mod EraseLaws
 pub mod KnownLaws
+pub mod NamesCounted

@@ -1,11 +1,5 @@
--- TO BELIEVE. The counts that a store of subscriptions tells: they are counted from what is held (document 01, 'Store rules').
--- Assumes nothing.
-use mathlib.Core.Path.{_≡_}
-use Prim.Native.Nat.{ℕ}
-use mathlib.Core.List.{List}
-use Rattle.refusal.specs.declared.Refusal.the-variants.{NotAStore}
+-- TO BELIEVE. The answers that tell the counts of a store of subscriptions. `Counts` of `edit` says what is told. Assumes nothing.
 use Rattle.held.specs.History.{Outcome, answered, refused}
-use Rattle.region.specs.Store.{SubscriptionStore}
 use Rattle.trie.specs.declared.NodesSize.{NodesSize}
 use Rattle.trie.specs.declared.NodesSize.the-variants.{Held, Refused}
 use Rattle.trie.specs.declared.ValuesSize.{ValuesSize}
@@ -18,8 +12,3 @@ nodesTold (Refused r) = refused r
 abbrev pub valuesTold : ValuesSize → Outcome
 valuesTold (ValuesHeld n) = answered (n .0)
 valuesTold (ValuesRefused r) = refused r
-
--- of a store the count is told, and of any other region 11
-pub record Counts (s : List ℕ) (count : ℕ) (told : Outcome) : Type 0 where
-  pub on-store : SubscriptionStore s → told ≡ answered count
-  pub on-other : (SubscriptionStore s → ⊥) → told ≡ refused NotAStore

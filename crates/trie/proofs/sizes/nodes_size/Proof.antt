@@ -1,5 +1,6 @@
+use Rattle.edit.proofs.CountLaws.{no-count}
 use borrow.Author.Needs.{needs}
-use Rattle.trie.proofs.SizeLaws.{no-count, nodes-counted}
+use Rattle.trie.proofs.SizeLaws.{nodes-counted}
 use Rattle.trie.proofs.sizes.nodes_size.Statement.{statement}
 use Rattle.trie.proofs.sizes.nodes_size.Tie as tie
 use Rattle.trie.proofs.sizes.nodes_size.Reads as reads

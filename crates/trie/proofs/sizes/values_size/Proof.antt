@@ -1,5 +1,6 @@
+use Rattle.edit.proofs.CountLaws.{no-count}
 use borrow.Author.Needs.{needs}
-use Rattle.trie.proofs.SizeLaws.{no-count, values-counted}
+use Rattle.trie.proofs.SizeLaws.{values-counted}
 use Rattle.trie.proofs.sizes.values_size.Statement.{statement}
 use Rattle.trie.proofs.sizes.values_size.Tie as tie
 use Rattle.trie.proofs.sizes.values_size.Reads as reads
