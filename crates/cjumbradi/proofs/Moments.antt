@@ -23,8 +23,8 @@ unfolding momentGiven
 given-at {expires} moment h = rw (ne-eqb expires 0 h)
 
 -- what is told of setting a record with such a moment
-pub set-told : {f s t : List ℕ} {payload handle expires moment : ℕ} {when : Moment} {r : Changed} {told : Told} → when ≡ momentGiven expires moment
+pub set-told : {f s t : List ℕ} (payload handle expires moment : ℕ) {when : Moment} {r : Changed} {told : Told} → when ≡ momentGiven expires moment
     → Calls retainedStore (set f payload (storedAs handle when)) s t r → told ≡ ofChanged r
     → Tells ofChanged (Calls retainedStore (set f payload (storedAs handle (momentGiven expires moment))) s t) told
-set-told {f} {s} {t} {payload} {handle} {r = r} e w z =
+set-told {f} {s} {t} payload handle expires moment {r = r} e w z =
     record { answer = r; promised = subst (λ (m : Moment). Calls retainedStore (set f payload (storedAs handle m)) s t r) e w; said = z }
