@@ -30,9 +30,9 @@ const NAMES: &[&[u8]] = &[
 ];
 
 /// What stands in a buffer before a listing.
-const FILL: u8 = 0xEE;
+pub const FILL: u8 = 0xEE;
 
-const NO_STORE: Refusal = Refusal {
+pub const NO_STORE: Refusal = Refusal {
     number: NOT_A_STORE,
     place: 0,
 };
@@ -40,7 +40,7 @@ const NO_STORE: Refusal = Refusal {
 /// A text of the list, or one that is held.
 fn text(random: &mut Random, choices: &[&[u8]], held: Option<&Held>) -> (Vec<u8>, u32) {
     let value = random.below(4) as u32;
-    let place = random.below(held.map_or(0, Held::pairs).max(1));
+    let place = random.below(held.map_or(0, |held| held.room().pairs()).max(1));
     let of_held = held.and_then(|held| held.all().nth(place));
     match of_held {
         Some((filter, value)) if random.once_in(2) => (filter.clone(), value),
@@ -48,12 +48,17 @@ fn text(random: &mut Random, choices: &[&[u8]], held: Option<&Held>) -> (Vec<u8>
     }
 }
 
-/// The calls on this region, whose store, if it is one, is known. What is wrong, where something is.
-pub fn wrong(judge: &StoreJudge, region: &[u8], store: Option<&Store>) -> Option<String> {
+/// Random numbers that a region decides.
+pub fn random_of(region: &[u8]) -> Random {
     let sum = region
         .iter()
         .fold(1, |sum: u64, byte| sum.wrapping_mul(31) + u64::from(*byte));
-    let random = &mut Random(sum);
+    Random(sum)
+}
+
+/// The calls on this region, whose store, if it is one, is known. What is wrong, where something is.
+pub fn wrong(judge: &StoreJudge, region: &[u8], store: Option<&Store>) -> Option<String> {
+    let random = &mut random_of(region);
     let held = store.map(|store| Held::holding(store.most, &store.pairs()));
     changed(judge, random, region, held.as_ref())
         .err()
@@ -99,23 +104,44 @@ fn left(
     found: Answer,
     held: Option<&Held>,
 ) -> Result<(), String> {
+    let held = held.filter(|_| found.is_ok());
+    left_by(
+        judge,
+        Kind::Subscriptions,
+        before,
+        after,
+        held,
+        |store, held| {
+            let pairs = store.pairs();
+            pairs
+                .iter()
+                .map(|(filter, value)| (filter, *value))
+                .eq(held.all())
+        },
+    )
+}
+
+/// The same for a store of either kind: `held` is none after a refusal, and `is_of` tells whether a
+/// store has what is held.
+pub fn left_by<H>(
+    judge: &StoreJudge,
+    kind: Kind,
+    before: &[u8],
+    after: Option<&[u8]>,
+    held: Option<&H>,
+    is_of: impl Fn(&Store, &H) -> bool,
+) -> Result<(), String> {
     let after = after.ok_or("bytes beside the region were written")?;
-    let Some(held) = held.filter(|_| found.is_ok()) else {
+    let Some(held) = held else {
         return match after == before {
             true => Ok(()),
             false => Err("a refusal wrote bytes".into()),
         };
     };
-    let store = judge.store(Kind::Subscriptions, after);
-    let store = store.ok_or("it left no store")?;
+    let store = judge.store(kind, after).ok_or("it left no store")?;
     let needed = store.most.needed();
-    let is_right = store
-        .pairs()
-        .iter()
-        .map(|(filter, value)| (filter, *value))
-        .eq(held.all())
-        && after[4..10] == before[4..10]
-        && after[needed..] == before[needed..];
+    let is_right =
+        is_of(&store, held) && after[4..10] == before[4..10] && after[needed..] == before[needed..];
     is_right.then_some(()).ok_or("it left another store".into())
 }
 

@@ -6,6 +6,7 @@ use std::time::Instant;
 use crate::answers::number::{BAD_SIZE, NOT_A_STORE};
 use crate::answers::{Answer, Refusal};
 use crate::called;
+use crate::called_names;
 use crate::damaged::{self, Damaged};
 use crate::random::Random;
 use crate::regions::{self, Counted};
@@ -149,7 +150,9 @@ fn compared(judge: &StoreJudge, region: &[u8], was: Option<&[Node]>) -> Case {
     let retained = judge.store(Kind::Retained, region);
     let used = |store: &Option<Store>| store.as_ref().map(|store| store.used);
     agree(region, expected(used(&subscriptions), used(&retained)))?;
-    if let Some(what) = called::wrong(judge, region, subscriptions.as_ref()) {
+    let what = called::wrong(judge, region, subscriptions.as_ref())
+        .or_else(|| called_names::wrong(judge, region, retained.as_ref()));
+    if let Some(what) = what {
         return Err(wrong(&what, region));
     }
     Ok(match subscriptions.or(retained) {

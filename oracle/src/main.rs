@@ -2,6 +2,7 @@
 
 mod answers;
 mod called;
+mod called_names;
 mod compare;
 mod damage;
 mod damaged;
@@ -10,7 +11,7 @@ mod differences;
 mod examples;
 mod gate;
 mod held;
-mod histories;
+mod history;
 mod inputs;
 mod library;
 mod long;
@@ -18,10 +19,14 @@ mod made_stores;
 #[cfg(feature = "rust")]
 mod matching;
 mod mutation;
+mod name_histories;
+mod named;
 mod random;
 mod reference;
 mod regions;
 mod report;
+mod retained;
+mod room;
 #[cfg(feature = "rust")]
 mod rust;
 mod self_test;
@@ -31,13 +36,18 @@ mod store_examples;
 mod store_judge;
 mod stores;
 mod subscribed;
+mod subscription_histories;
+mod texts;
+mod twists;
 
 use std::env;
 use std::process::ExitCode;
 
 use compare::{Comparison, Judge};
 use library::Library;
+use name_histories::Names;
 use reference::HONEST;
+use subscription_histories::Subscriptions;
 
 const USAGE: &str = "usage: oracle [--self-test | --differences] [--seed N]";
 
@@ -135,7 +145,8 @@ fn main() -> ExitCode {
             let of_texts = gate::run(&comparison, stages::stages(&stages::GATE, seed));
             of_texts
                 .and(damage::run(&damage::GATE, seed))
-                .and(histories::run(seed))
+                .and(history::run::<Subscriptions>(seed))
+                .and(history::run::<Names>(seed))
         }
     };
     println!("{} passed, {} failed", totals.passed, totals.failed);

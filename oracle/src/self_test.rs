@@ -6,15 +6,17 @@ use crate::answers::TopicCalls;
 use crate::compare::{Comparison, Difference, Judge};
 use crate::damage;
 use crate::examples;
-use crate::held::TWISTS;
-use crate::histories;
+use crate::history::{self, Trial};
 use crate::inputs::Input;
 use crate::library::Library;
 use crate::mutation::{self, Mutation};
+use crate::name_histories::Names;
 use crate::reference::{Reference, HONEST};
 use crate::stages::{stages, QUICK};
 use crate::store_examples;
 use crate::store_judge::{self, StoreJudge};
+use crate::subscription_histories::Subscriptions;
+use crate::twists::{self, Twist};
 use crate::{judges, rust_judge, Totals};
 
 pub fn run(seed: u64) -> Totals {
@@ -41,7 +43,13 @@ pub fn run(seed: u64) -> Totals {
             totals.count(unnoticed(mutation, "Rust", noticed));
         }
     }
-    totals.and(of_regions(seed)).and(of_histories(seed))
+    totals
+        .and(of_regions(seed))
+        .and(of_histories::<Subscriptions>(
+            twists::of_subscriptions(),
+            seed,
+        ))
+        .and(of_histories::<Names>(twists::of_names(), seed))
 }
 
 /// The judge of regions: what it writes down, an honest run, and a judge without each condition.
@@ -71,15 +79,15 @@ fn of_regions(seed: u64) -> Totals {
 }
 
 /// The model of what is held: an honest run, and every rule of it broken.
-fn of_histories(seed: u64) -> Totals {
+fn of_histories<T: Trial>(twists: impl Iterator<Item = Twist>, seed: u64) -> Totals {
     let mut totals = Totals::default();
-    let noise = histories::first_difference(None, seed);
+    let noise = history::first_difference::<T>(None, seed);
     totals.count(
         noise.map(|(calls, wrong)| format!("an honest history differs, {calls:?}: {wrong}")),
     );
-    for twist in TWISTS {
-        totals.count(match histories::first_difference(Some(twist), seed) {
-            None => Some(format!("{twist:?} is not noticed")),
+    for twist in twists {
+        totals.count(match history::first_difference::<T>(Some(twist), seed) {
+            None => Some(format!("{twist:?} of {} is not noticed", T::KIND)),
             Some((calls, wrong)) => {
                 println!("{twist:?}: after {} calls, {wrong:.100}", calls.len());
                 None
