@@ -5,3 +5,4 @@ pub mod SpanLaws
 pub mod TurnLaws
 pub mod OwnLaws
 pub mod SizeLaws
+pub mod Answers

@@ -234,10 +234,11 @@ row-told q before b base s left lo hi i filter from size sum step span of sp bar
 
 -- all of it
 module _ (clock offset limit base n : ℕ) (s filter : List ℕ) {all : Tally} {given : ℕ} (told : RowTold (record { clock = clock; offset = offset; limit = limit }) (record { bytes = 0; total = 0 }) base s 128 0 n (split filter) 0 all) (page : given ≡ min limit (all .total - offset)) where
-  pub measured : Measured clock offset limit (split filter) (Looked base s n) (storedIn base s n) (record { bytes = all .bytes; records = given; total = all .total })
+  pub measured : Measured clock offset limit base s n (split filter) (record { bytes = all .bytes; records = given; total = all .total })
   measured =
       record {
         bytes-are = λ l. rw zero-add at (told .told (storedIn base s n) l [] refl .bytes-are);
         total-is = λ l. rw zero-add at (told .told (storedIn base s n) l [] refl .total-is);
         records-are = page;
+        few = told .total-most;
       }

@@ -17,7 +17,7 @@ use Rattle.forest.specs.Places.{unitAt}
 use Rattle.lookup.specs.declared.Query.{Query}
 use Rattle.lookup.specs.declared.Tally.{Tally}
 use Rattle.lookup.specs.declared.Found.{Found}
-use Rattle.lookup.specs.Standing.{Standing, OwnHolds, NodeHas}
+use Rattle.lookup.specs.Standing.{storedIn, Looked, Standing, OwnHolds, NodeHas}
 use Rattle.lookup.specs.Spans.{Taken}
 use Rattle.lookup.specs.Turns.{barredAt, rowAsked, ownNumber, ownAsked, nodeNumber, nodeAsked, Rest}
 
@@ -66,8 +66,9 @@ pub record RowTold (q : Query) (before : Tally) (base : ℕ) (s : List ℕ) (lef
   pub told : (F : Forest Stored) → Standing base s left lo hi F → (p : Filter) → width p ≡ size
       → Told before (rowAsked q (before .total) p (barredAt left fs) fs F) (rowCount (q .clock) (barredAt left fs) fs F) r
 
--- what a lookup of the filter f takes in a forest F, if the forest is there as it must
-pub record Measured (clock offset limit : ℕ) (f : Filter) (there : Type 0) (F : Forest Stored) (r : Found) : Type 0 where
-  pub bytes-are : there → r .bytes ≡ length (rowBytes clock offset limit 0 [] (leadWild f) f F)
-  pub total-is : there → r .total ≡ rowCount clock (leadWild f) f F
+-- what a lookup of the filter f takes in the units from 0 up to n, if a forest stands there as it must
+pub record Measured (clock offset limit base : ℕ) (s : List ℕ) (n : ℕ) (f : Filter) (r : Found) : Type 0 where
+  pub bytes-are : Looked base s n → r .bytes ≡ length (rowBytes clock offset limit 0 [] (leadWild f) f (storedIn base s n))
+  pub total-is : Looked base s n → r .total ≡ rowCount clock (leadWild f) f (storedIn base s n)
   pub records-are : r .records ≡ min limit (r .total - offset)
+  pub few : r .total ≤ n

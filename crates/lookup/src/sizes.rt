@@ -7,7 +7,7 @@ ghost use Rattle.level.specs.Places.{levelsAt};
 ghost use Rattle.held.specs.Stream.{inPage};
 ghost use Rattle.forest.specs.Places.{unitAt};
 ghost use Rattle.walk.specs.Nodes.{Below};
-ghost use Rattle.lookup.specs.Standing.{storedIn, Looked, NodeIn};
+ghost use Rattle.lookup.specs.Standing.{NodeIn};
 ghost use Rattle.lookup.specs.Sizes.{LiveTold, OwnTold, NodeTold, RowTold, Measured};
 use crate::Found;
 use crate::Life;
@@ -185,7 +185,7 @@ pub fn measure(
     limit: u64,
 ) -> Found
     requires { ⌜ (unitAt base n ≤ length (now s)) × (64 + n ≤ base) × (n < 4294967296) ⌝ }
-    ensures { λ r. ⌜ Measured clock offset limit (split (now (filter .entry))) (Looked base (now (s .entry)) n) (storedIn base (now (s .entry)) n) r ⌝ }
+    ensures { λ r. ⌜ Measured clock offset limit base (now (s .entry)) n (split (now (filter .entry))) r ⌝ }
 {
     let none = Tally { bytes: 0, total: 0 };
     let query = Query {
