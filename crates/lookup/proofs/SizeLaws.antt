@@ -122,7 +122,7 @@ module _ (q : Query) (before : Tally) (base : ℕ) (s : List ℕ) (at end : ℕ)
         }
 
 -- a node
-not-top : (left : ℕ) (gs : Filter) → left ≤ 128 → 0 < left → barredAt (left - 1) gs ≡ false
+pub not-top : (left : ℕ) (gs : Filter) → left ≤ 128 → 0 < left → barredAt (left - 1) gs ≡ false
 not-top left gs h k = rw (ne-eqb (left - 1) 128 (λ e. omega (arith, e, h, k)))
 
 module _ (q : Query) (before : Tally) (base : ℕ) (s : List ℕ) (left i : ℕ) (node : Row) (filter : List ℕ) (next size at : ℕ) (some : 0 < left) (few : left ≤ 128)

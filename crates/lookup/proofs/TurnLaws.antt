@@ -164,6 +164,7 @@ row-ready base s left lo hi filter from size step span z d b h k of sp =
 pub node-in : (base : ℕ) (s : List ℕ) (left hi i : ℕ) (filter : List ℕ) (from next size : ℕ) (node : Row) → Ready base s left hi filter from next size → RowAt base s i hi node → NodeIn base s i node
 node-in base s left hi i filter from next size node y ra =
     record {
+      len-is = ra .len-is;
       on = ra .on;
       within = ra .within;
       units = omega (arith, ra .last, y .units);

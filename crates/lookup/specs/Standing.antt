@@ -14,7 +14,7 @@ use Rattle.region.specs.Layout.{levelUnits, rowUnits}
 use Rattle.region.specs.Units.{storedBytes, storedOf}
 use Rattle.region.proofs.Instances.{SmallStored}
 use Rattle.forest.specs.declared.Row.{Row}
-use Rattle.forest.specs.Places.{unitAt, levelIn, forestIn}
+use Rattle.forest.specs.Places.{unitAt, lenAt, levelIn, forestIn}
 use Rattle.forest.specs.Stands.{Stands}
 use Rattle.walk.specs.Height.{heightF}
 
@@ -34,6 +34,7 @@ Looked base s n = Standing base s 128 0 n (storedIn base s n)
 
 -- whatever the bytes are, a node at unit i lies within the units
 pub record NodeIn (base : ℕ) (s : List ℕ) (i : ℕ) (r : Row) : Type 0 where
+  pub len-is : r .len ≡ lenAt base s i
   pub on : i < r .end
   pub within : r .end ≤ r .past
   pub units : unitAt base (r .past) ≤ length s
