@@ -13,7 +13,7 @@ use Rattle.held.proofs.Orders.{level-order}
 use Rattle.held.proofs.Walks.{kid-over}
 use Rattle.held.proofs.Equations.{kid-here, kid-next, count-none, count-out, row-none, row-out}
 
-and-false : (a b : Bool) → b ≡ false → (a && b) ≡ false
+pub and-false : (a b : Bool) → b ≡ false → (a && b) ≡ false
 and-false true b e = e
 and-false false b e = refl
 

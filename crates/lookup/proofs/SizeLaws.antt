@@ -12,34 +12,27 @@ use Rattle.lent.specs.Parts.{part}
 use Rattle.level.specs.Kinds.{dollar}
 use Rattle.level.specs.Levels.{split, join, width}
 use Rattle.level.specs.Places.{levelsAt}
-use Rattle.level.proofs.Split.{levels-none}
 use Rattle.topic.specs.Match.{takes, leadWild}
 use Rattle.held.specs.Order.{Level, Filter}
 use Rattle.held.specs.Retained.{Stored, nameRecord}
 use Rattle.held.specs.Forest.{Forest, leaf, fork, onward}
 use Rattle.held.specs.Stream.{inPage, rowCount, rowBytes}
-use Rattle.held.proofs.Equations.{count-none, row-none}
 use Rattle.region.specs.Layout.{levelUnits}
 use Rattle.region.specs.Units.{storedOf}
 use Rattle.forest.specs.declared.Row.{Row}
 use Rattle.forest.specs.Places.{unitAt, levelIn, RowAt}
-use Rattle.walk.specs.Nodes.{Below}
-use Rattle.walk.proofs.Heights.{no-height}
 use Rattle.walk.proofs.Widths.{width-next, length-join-next}
 use Rattle.lookup.specs.declared.Life.{Life}
 use Rattle.lookup.specs.declared.Life.the-variants.{Over, Left}
 use Rattle.lookup.specs.declared.Query.{Query}
 use Rattle.lookup.specs.declared.Tally.{Tally}
 use Rattle.lookup.specs.declared.Found.{Found}
-use Rattle.lookup.specs.declared.Step.{Step}
-use Rattle.lookup.specs.declared.Span.{Span}
+use Rattle.lookup.specs.declared.Along.{Along}
 use Rattle.lookup.specs.Lives.{lifeOf}
-use Rattle.lookup.specs.Steps.{StepOf}
 use Rattle.lookup.specs.Standing.{storedIn, Looked, Standing, NodeIn, OwnHolds, NodeHas}
-use Rattle.lookup.specs.Spans.{Taken, Spanned}
-use Rattle.lookup.specs.Turns.{barredAt, rowAsked, ownNumber, ownAsked, nodeNumber, nodeAsked, Ready}
+use Rattle.lookup.specs.Spans.{Taken, barredAt, AlongOf}
+use Rattle.lookup.specs.Turns.{rowAsked, ownNumber, ownAsked, nodeNumber, nodeAsked, Ready}
 use Rattle.lookup.specs.Sizes.{Told, LiveTold, OwnTold, NodeTold, Passed, RowTo, RowTold, Measured}
-use Rattle.lookup.proofs.RowLaws.{count-ended, bytes-ended}
 use Rattle.lookup.proofs.TurnLaws.{rest-first, rest-hidden, rest-met, rest-end}
 use Rattle.lookup.proofs.OwnLaws.{one-held, none-held, over-is, left-is, length-name, own-empty, own-unasked, own-asked, own-expired, own-counted, own-paged, own-unpaged}
 
@@ -125,7 +118,7 @@ module _ (q : Query) (before : Tally) (base : ℕ) (s : List ℕ) (at end : ℕ)
 pub not-top : (left : ℕ) (gs : Filter) → left ≤ 128 → 0 < left → barredAt (left - 1) gs ≡ false
 not-top left gs h k = rw (ne-eqb (left - 1) 128 (λ e. omega (arith, e, h, k)))
 
-module _ (q : Query) (before : Tally) (base : ℕ) (s : List ℕ) (left i : ℕ) (node : Row) (filter : List ℕ) (next size at : ℕ) (some : 0 < left) (few : left ≤ 128)
+module _ (q : Query) (before : Tally) (base : ℕ) (s : List ℕ) (left i : ℕ) (node : Row) (filter : List ℕ) (next size at : ℕ) (few : left ≤ 128)
     (is : at ≡ min (i + (node .len + 23) / 16) (node .end)) (w r : Tally) (own : OwnTold q before base s at (node .end) (levelsAt filter next) (size + node .len) w)
     (below : RowTold q w base s (left - 1) (node .end) (node .past) (levelsAt filter next) (size + node .len + 1) r) where
   told-all : (t : Level) (v : List Stored) (k : Forest Stored) → NodeHas base s left i node t v k → (p : Filter) → width p ≡ size
@@ -136,46 +129,33 @@ module _ (q : Query) (before : Tally) (base : ℕ) (s : List ℕ) (left i : ℕ)
       let a : at ≡ i + levelUnits t = omega (arith, is, has .len, has .holds .count) in
       let x = own .told v (rw a (has .holds)) (p ++ t ∷ []) (length-join-next p t ∙ omega (arith, e, has .len)) in
       let y = below .told k (has .kids) (p ++ t ∷ []) (width-next p t ∙ omega (arith, e, has .len)) in
-      let z : Told w (rowAsked q (w .total) (p ++ t ∷ []) false gs k) (rowCount (q .clock) false gs k) r = rw (not-top left gs few some) at y in
+      let z : Told w (rowAsked q (w .total) (p ++ t ∷ []) false gs k) (rowCount (q .clock) false gs k) r = rw (not-top left gs few (has .deep)) at y in
       rw (← x .total-is) (told-both before w r (ownAsked q (before .total) (p ++ t ∷ []) gs v) (rowAsked q (w .total) (p ++ t ∷ []) false gs k) (ownNumber q gs v) (rowCount (q .clock) false gs k) x z)
 
   pub node-told : NodeTold q before base s left i node (levelsAt filter next) size r
   node-told = record { total-most = below .total-most; bytes-most = below .bytes-most; told = told-all }
 
--- a row that gives nothing
-module _ (q : Query) (before : Tally) (base : ℕ) (s : List ℕ) (left lo hi : ℕ) (filter : List ℕ) (from size : ℕ) (b : Below base s lo hi) (few : before .total ≤ lo) (small : before .bytes ≤ 8388624 * lo) where
-  pub row-shut : left ≡ 0 → RowTold q before base s left lo hi (levelsAt filter from) size before
-  row-shut z =
-      record {
-        total-most = omega (arith, few, b .low);
-        bytes-most = omega (arith, small, b .low);
-        told = λ F st p e.
-            let l = no-height F (omega (arith, st .low, z)) in
-            let fs = levelsAt filter from in
-            rw l (told-none before (row-none p (barredAt left fs) fs (q .clock) (q .offset) (q .limit) (before .total)) (count-none p (barredAt left fs) fs (q .clock)));
-      }
-
-  pub row-ended : length filter < from → RowTold q before base s left lo hi (levelsAt filter from) size before
-  row-ended h =
-      record {
-        total-most = omega (arith, few, b .low);
-        bytes-most = omega (arith, small, b .low);
-        told = λ F st p e.
-            rw (levels-none filter from h)
-            (told-none before (bytes-ended (q .clock) (q .offset) (q .limit) (before .total) p (barredAt left []) F) (count-ended (q .clock) (barredAt left []) F));
-      }
+-- no node is deeper than 128
+pub node-shut : (q : Query) (before : Tally) (base : ℕ) (s : List ℕ) (left i : ℕ) (node : Row) (filter : List ℕ) (next size : ℕ) → left ≡ 0 → NodeIn base s i node → before .total ≤ i → before .bytes ≤ 8388624 * i
+    → NodeTold q before base s left i node (levelsAt filter next) size before
+node-shut q before base s left i node filter next size z h f b =
+    record {
+      total-most = omega (arith, f, h .on, h .within);
+      bytes-most = omega (arith, b, h .on, h .within);
+      told = λ t v k has p e. absurd (omega (arith, has .deep, z));
+    }
 
 -- the turns along a row
-pub row-begin : (q : Query) (before : Tally) (b : Bool) (base : ℕ) (s : List ℕ) (left lo hi : ℕ) (filter : List ℕ) (from size : ℕ) (span : Span) → before .total ≤ lo → before .bytes ≤ 8388624 * lo
-    → Spanned base s left lo hi (levelsAt filter from) span → RowTo q before b (levelsAt filter from) base s left (span .lo) (span .hi) (span .lo) size before
-row-begin q before b base s left lo hi filter from size span h k sp =
+pub row-begin : (q : Query) (before : Tally) (b : Bool) (base : ℕ) (s : List ℕ) (left lo hi : ℕ) (filter : List ℕ) (from size : ℕ) (walk : Along) → before .total ≤ lo → before .bytes ≤ 8388624 * lo
+    → AlongOf base s left lo hi filter from walk → RowTo q before b (levelsAt filter from) base s left (walk .lo) (walk .hi) (walk .lo) size before
+row-begin q before b base s left lo hi filter from size walk h k of =
     record {
       begun = omega arith;
-      within = sp .on;
-      total-most = omega (arith, h, sp .begun);
-      bytes-most = omega (arith, k, sp .begun);
+      within = of .on;
+      total-most = omega (arith, h, of .begun);
+      bytes-most = omega (arith, k, of .begun);
       passed = λ G st ta p e.
-          record { done = []; rest = rest-first q b (levelsAt filter from) base s left (span .lo) (span .hi) p G (before .total) st ta; bytes-are = omega arith };
+          record { done = []; rest = rest-first q b (levelsAt filter from) base s left (walk .lo) (walk .hi) p G (before .total) st ta; bytes-are = omega arith };
     }
 
 module _ (q : Query) (before : Tally) (b : Bool) (base : ℕ) (s : List ℕ) (left lo hi i : ℕ) (filter : List ℕ) (from size : ℕ) (sum : Tally) (z : RowTo q before b (levelsAt filter from) base s left lo hi i size sum)
@@ -192,7 +172,7 @@ module _ (q : Query) (before : Tally) (b : Bool) (base : ℕ) (s : List ℕ) (le
         bytes-most = omega (arith, z .bytes-most, ra .on, ra .within);
         passed = λ G st ta p e.
             let x = z .passed G st ta p e in
-            record { done = x .done; rest = rest-hidden q b fs base s left i hi p G (before .total) (x .done) (sum .total) (x .rest) node ra more (y .some) (y .deep) hidden t; bytes-are = x .bytes-are };
+            record { done = x .done; rest = rest-hidden q b fs base s left i hi p G (before .total) (x .done) (sum .total) (x .rest) node ra more (y .deep) hidden t; bytes-are = x .bytes-are };
       }
 
   pub row-visited : h ≡ false → {r : Tally} → NodeTold q sum base s left i node (levelsAt filter next) size r
@@ -205,7 +185,7 @@ module _ (q : Query) (before : Tally) (b : Bool) (base : ℕ) (s : List ℕ) (le
         bytes-most = n .bytes-most;
         passed = λ G st ta p e.
             let x = z .passed G st ta p e in
-            let m = rest-met q b fs base s left i hi p G (before .total) (x .done) (sum .total) (x .rest) node ra more (y .some) (y .deep) hidden t in
+            let m = rest-met q b fs base s left i hi p G (before .total) (x .done) (sum .total) (x .rest) node ra more (y .deep) hidden t in
             let u = rw (y .goes) at (n .told (m .level) (m .own) (m .kids) (m .has) p e) in
             let here : List ℕ = nodeAsked q (sum .total) (p ++ m .level ∷ []) (onward fs) (m .own) (m .kids) in
             record {
@@ -215,20 +195,18 @@ module _ (q : Query) (before : Tally) (b : Bool) (base : ℕ) (s : List ℕ) (le
             };
       }
 
-pub row-told : (q : Query) (before : Tally) (b : Bool) (base : ℕ) (s : List ℕ) (left lo hi i : ℕ) (filter : List ℕ) (from size : ℕ) (sum : Tally) (step : Step) (span : Span) → StepOf filter from step
-    → Spanned base s left lo hi (levelsAt filter from) span → b ≡ (eqb left 128 && step .wild) → RowTo q before b (levelsAt filter from) base s left (span .lo) (span .hi) i size sum → span .hi ≤ i
-    → RowTold q before base s left lo hi (levelsAt filter from) size sum
-row-told q before b base s left lo hi i filter from size sum step span of sp bar z over =
+pub row-told : (q : Query) (before : Tally) (base : ℕ) (s : List ℕ) (left lo hi i : ℕ) (filter : List ℕ) (from size : ℕ) (sum : Tally) (walk : Along) → AlongOf base s left lo hi filter from walk
+    → RowTo q before (walk .barred) (levelsAt filter from) base s left (walk .lo) (walk .hi) i size sum → walk .hi ≤ i → RowTold q before base s left lo hi (levelsAt filter from) size sum
+row-told q before base s left lo hi i filter from size sum walk of z over =
     let fs : Filter = levelsAt filter from in
-    let is : b ≡ barredAt left fs = bar ∙ ap (λ (w : Bool). eqb left 128 && w) (of .wild-is) in
     record {
-      total-most = omega (arith, z .total-most, z .within, sp .within);
-      bytes-most = omega (arith, z .bytes-most, z .within, sp .within);
+      total-most = omega (arith, z .total-most, z .within, of .within);
+      bytes-most = omega (arith, z .bytes-most, z .within, of .within);
       told = λ F st p e.
-          let g = sp .is F st in
+          let g = of .is F st in
           let y = z .passed (g .nodes) (g .stands) (g .taken) p e in
-          let d = rest-end q b fs base s left i (span .hi) p (g .nodes) (before .total) (y .done) (sum .total) (y .rest) over in
-          rw (← is, g .bytes-are (q .clock) (q .offset) (q .limit) (before .total) p b, g .count-is (q .clock) b)
+          let d = rest-end q (walk .barred) fs base s left i (walk .hi) p (g .nodes) (before .total) (y .done) (sum .total) (y .rest) over in
+          rw (← of .barred-is, g .bytes-are (q .clock) (q .offset) (q .limit) (before .total) p (walk .barred), g .count-is (q .clock) (walk .barred))
           (record { bytes-are = rw (d .0) (y .bytes-are); total-is = sym (d .1) });
     }
 

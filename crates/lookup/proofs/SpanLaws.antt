@@ -1,13 +1,15 @@
 -- The siblings of a row that a filter's level may take, in the words of the code. Assumes nothing.
 use mathlib.Core.Path.{_≡_, refl, sym, ap, _∙_}
-use mathlib.Core.Bool.{Bool, true, false, _||_}
+use mathlib.Core.Bool.{Bool, true, false, _&&_, _||_}
 use mathlib.Core.List.{List, [], _∷_}
 use Prim.Native.Nat.{ℕ, _+_, _-_, _≤_, _<_}
 use native.Mathlib.Omega.{arith}
+use lib.Dec.{eqb}
 use lib.ListN.{length, take, drop}
 use Rattle.lent.proofs.Turns.{part-none}
 use Rattle.level.specs.Kinds.{isOnly, same}
 use Rattle.level.specs.Places.{levelsAt}
+use Rattle.level.proofs.Split.{levels-none}
 use Rattle.held.specs.Order.{Level, Filter}
 use Rattle.held.specs.Retained.{Stored}
 use Rattle.held.specs.Forest.{Forest, leaf, fork, Hit, miss, hit, kid}
@@ -31,10 +33,11 @@ use Rattle.walk.specs.Nodes.{Below}
 use Rattle.walk.specs.Steps.{NextLevel}
 use Rattle.walk.proofs.Heights.{height-fork, kid-height}
 use Rattle.lookup.specs.declared.Step.{Step}
+use Rattle.lookup.specs.declared.Span.{Span}
 use Rattle.lookup.specs.Steps.{StepOf}
 use Rattle.lookup.specs.Standing.{Standing}
-use Rattle.lookup.specs.Spans.{Taken, SpanOf, Spanned}
-use Rattle.lookup.proofs.RowLaws.{only, no-miss, count-only, bytes-only}
+use Rattle.lookup.specs.Spans.{Taken, SpanOf, Spanned, barredAt, AlongOf}
+use Rattle.lookup.proofs.RowLaws.{only, no-miss, count-only, bytes-only, and-false, count-ended, bytes-ended}
 
 -- a wildcard takes every node
 wild-takes : (a b c : Bool) → (b || a) ≡ true → (a || (b || c)) ≡ true
@@ -76,6 +79,16 @@ owns-kid g (fork t w j n) v k o e = go (same g t) refl (owns-kid g n v k (o .2))
         rw (← a, ← b) (o .0, o .1)
     go false p f = f (sym (kid-next g t w j n p) ∙ e)
 
+-- no node
+leaf-stands : (base : ℕ) (s : List ℕ) (left lo : ℕ) → Standing base s left lo lo leaf
+unfolding unitsF unitBytes marksOf heightF
+leaf-stands base s left lo =
+    record {
+      stands = record { size = omega arith; units = part-none (unitAt base lo) s; marks = part-none (64 + lo) s; rows = tt; fits = leaf-fits };
+      single = tt;
+      low = omega arith;
+    }
+
 module _ (base : ℕ) (s : List ℕ) (left lo hi : ℕ) (filter : List ℕ) (from : ℕ) (step : Step) (below : Below base s lo hi) (of : StepOf filter from step) where
   -- the whole row
   pub span-all : step .wild ≡ true → Spanned base s left lo hi (levelsAt filter from) (record { lo = lo; hi = hi })
@@ -109,15 +122,6 @@ module _ (base : ℕ) (s : List ℕ) (left lo hi : ℕ) (filter : List ℕ) (fro
     wrote F st now o l i p b = rw (of .level .levels) (bytes-only now b g gs (plain-level .0) (plain-level .1) o l i p F (st .stands .rows))
 
     -- no node
-    leaf-stands : Standing base s left lo lo leaf
-    unfolding unitsF unitBytes marksOf heightF
-    leaf-stands =
-        record {
-          stands = record { size = omega arith; units = part-none (unitAt base lo) s; marks = part-none (64 + lo) s; rows = tt; fits = leaf-fits };
-          single = tt;
-          low = omega arith;
-        }
-
     pub span-none : (i : ℕ) → c ≡ NoChild i → Spanned base s left lo hi (levelsAt filter from) (record { lo = lo; hi = lo })
     span-none i e =
         record {
@@ -129,7 +133,7 @@ module _ (base : ℕ) (s : List ℕ) (left lo hi : ℕ) (filter : List ℕ) (fro
               let z : only g (kid g F) ≡ leaf = rw (m .missed) in
               record {
                 nodes = leaf;
-                stands = leaf-stands;
+                stands = leaf-stands base s left lo;
                 taken = tt;
                 count-is = λ now b. counts F st now b ∙ ap (rowCount now b (levelsAt filter from)) z;
                 bytes-are = λ now o l i p b. wrote F st now o l i p b ∙ ap (rowBytes now o l i p b (levelsAt filter from)) z;
@@ -157,7 +161,7 @@ module _ (base : ℕ) (s : List ℕ) (left lo hi : ℕ) (filter : List ℕ) (fro
           is = λ F st. one F st;
         }
       where
-        one : (F : Forest Stored) → Standing base s left lo hi F → SpanOf base s left (levelsAt filter from) F (record { lo = i; hi = q })
+        one : (F : Forest Stored) → Standing base s left lo hi F → SpanOf base s left (levelsAt filter from) F i q
         one F st =
             let f = found-in records base s g (129 - left) lo hi F (st .stands) i e q (sym is ∙ child-stands records base s (129 - left) lo hi F (st .stands) g c ask) in
             let z : only g (kid g F) ≡ fork g (f .own) (f .kids) leaf = rw (f .found) in
@@ -173,3 +177,38 @@ module _ (base : ℕ) (s : List ℕ) (left lo hi : ℕ) (filter : List ℕ) (fro
               count-is = λ now b. counts F st now b ∙ ap (rowCount now b (levelsAt filter from)) z;
               bytes-are = λ now o l i p b. wrote F st now o l i p b ∙ ap (rowBytes now o l i p b (levelsAt filter from)) z;
             }
+
+-- the walk of a row
+module _ (base : ℕ) (s : List ℕ) (left lo hi : ℕ) (filter : List ℕ) (from : ℕ) where
+  pub along-none : length filter < from → from ≤ length filter + 1 → Below base s lo hi → AlongOf base s left lo hi filter from (record { lo = lo; hi = lo; next = from; barred = false })
+  along-none h k b =
+      let e : levelsAt filter from ≡ [] = levels-none filter from h in
+      record {
+        begun = omega arith;
+        on = omega arith;
+        within = b .low;
+        goes = rw e;
+        next-in = k;
+        barred-is = rw e (sym (and-false (eqb left 128) false refl));
+        is = λ F st.
+            record {
+              nodes = leaf;
+              stands = leaf-stands base s left lo;
+              taken = tt;
+              count-is = λ now c. rw e (count-ended now c F ∙ sym (count-ended now c leaf));
+              bytes-are = λ now o l i p c. rw e (bytes-ended now o l i p c F ∙ sym (bytes-ended now o l i p c leaf));
+            };
+      }
+
+  pub along-some : (step : Step) (span : Span) → StepOf filter from step → Spanned base s left lo hi (levelsAt filter from) span → {b : Bool} → b ≡ (eqb left 128 && step .wild)
+      → AlongOf base s left lo hi filter from (record { lo = span .lo; hi = span .hi; next = step .next; barred = b })
+  along-some step span of sp {b} e =
+      record {
+        begun = sp .begun;
+        on = sp .on;
+        within = sp .within;
+        goes = of .goes;
+        next-in = of .within;
+        barred-is = e ∙ ap (λ (w : Bool). eqb left 128 && w) (of .wild-is);
+        is = sp .is;
+      }

@@ -21,27 +21,29 @@ use Rattle.seek.proofs.Holds.{stands-holds}
 use Rattle.walk.specs.Nodes.{Below}
 use Rattle.walk.proofs.Heights.{height-fork}
 use Rattle.lookup.specs.declared.Query.{Query}
-use Rattle.lookup.specs.declared.Step.{Step}
-use Rattle.lookup.specs.declared.Span.{Span}
-use Rattle.lookup.specs.Steps.{StepOf}
+use Rattle.lookup.specs.declared.Along.{Along}
 use Rattle.lookup.specs.Standing.{Standing, NodeIn, OwnHolds, NodeHas}
-use Rattle.lookup.specs.Spans.{Taken, Spanned}
+use Rattle.lookup.specs.Spans.{Taken, AlongOf}
 use Rattle.lookup.specs.Turns.{rowAsked, ownNumber, ownAsked, nodeNumber, nodeAsked, Ready, Rest}
 
 -- a node that stands, as the code has it
-module _ (base : ℕ) (s : List ℕ) (left i hi : ℕ) (r : Row) (ra : RowAt base s i hi r) (some : 0 < left) (few : left ≤ 128) (t : Level) (v : List Stored) (k n : Forest Stored) (st : Standing base s left i hi (fork t v k n)) where
+module _ (base : ℕ) (s : List ℕ) (left i hi : ℕ) (r : Row) (ra : RowAt base s i hi r) (few : left ≤ 128) (t : Level) (v : List Stored) (k n : Forest Stored) (st : Standing base s left i hi (fork t v k n)) where
   end-is : r .end ≡ i + rowUnits t v
   end-is = ra .end-is ∙ stands-end records base s (129 - left) i hi t v k n (st .stands) hi (omega (arith, st .stands .size, fork-units t v k n))
 
   pub past-is : r .past ≡ i + rowUnits t v + unitsF k
   past-is = ra .past-is ∙ stands-past records base s (129 - left) i hi t v k n (st .stands) hi (omega (arith, st .stands .size, fork-units t v k n))
 
+  some : 0 < left
+  some = omega (arith, st .low, height-fork t v k n)
+
   deeper : 129 - left + 1 ≡ 129 - (left - 1)
-  deeper = omega arith
+  deeper = omega (arith, some)
 
   pub node-has : NodeHas base s left i r t v k
   node-has =
       record {
+        deep = some;
         len = ra .len-is ∙ stands-len records base s (129 - left) i hi t v k n (st .stands);
         text = λ m h. stands-level records base s (129 - left) i hi t v k n (st .stands) m (omega (arith, h, end-is));
         holds = record {
@@ -88,7 +90,7 @@ pub record Met (q : Query) (b : Bool) (fs : Filter) (base : ℕ) (s : List ℕ) 
   pub after : Rest q b fs base s left (r .past) hi p G first (done ++ nodeAsked q i (p ++ level ∷ []) (onward fs) own kids) (i + nodeNumber q (onward fs) own kids)
 
 module _ (q : Query) (b : Bool) (fs : Filter) (base : ℕ) (s : List ℕ) (left unit hi : ℕ) (p : Filter) (G : Forest Stored) (first : ℕ) (done : List ℕ) (i : ℕ) (z : Rest q b fs base s left unit hi p G first done i) where
-  module _ (r : Row) (ra : RowAt base s unit hi r) (more : unit < hi) (some : 0 < left) (few : left ≤ 128) where
+  module _ (r : Row) (ra : RowAt base s unit hi r) (more : unit < hi) (few : left ≤ 128) where
     nothing : hi ≡ unit + unitsF {X = Stored} leaf → ⊥
     unfolding unitsF
     nothing e = omega (arith, e, more)
@@ -100,11 +102,11 @@ module _ (q : Query) (b : Bool) (fs : Filter) (base : ℕ) (s : List ℕ) (left 
             → Rest q b fs base s left (r .past) hi p G first done i
         go leaf st ta ps ns = absurd (nothing (st .stands .size))
         go (fork l v k n) st ta ps ns =
-            let e : (b && dollar l) ≡ true = rw (level-is base s left unit hi r ra some few l v k n st) at (sym is ∙ t) in
+            let e : (b && dollar l) ≡ true = rw (level-is base s left unit hi r ra few l v k n st) at (sym is ∙ t) in
             let o = barred-out (b && dollar l) (fits fs l) e in
             record {
               rest = n;
-              stands = next-stands base s left unit hi r ra some few l v k n st;
+              stands = next-stands base s left unit hi r ra few l v k n st;
               taken = ta .1;
               parts = ps ∙ ap (λ (w : List ℕ). done ++ w) (row-out p b fs (q .clock) l v k n (q .offset) (q .limit) i o);
               numbers = ns ∙ ap (λ (w : ℕ). i + w) (count-out p b fs (q .clock) l v k n o);
@@ -118,7 +120,7 @@ module _ (q : Query) (b : Bool) (fs : Filter) (base : ℕ) (s : List ℕ) (left 
             → Met q b fs base s left unit hi p G first done i r
         go leaf st ta ps ns = absurd (nothing (st .stands .size))
         go (fork l v k n) st ta ps ns =
-            let e : (b && dollar l) ≡ false = rw (level-is base s left unit hi r ra some few l v k n st) at (sym is ∙ t) in
+            let e : (b && dollar l) ≡ false = rw (level-is base s left unit hi r ra few l v k n st) at (sym is ∙ t) in
             let o = free-in (b && dollar l) (fits fs l) e (ta .0) in
             let here : List ℕ = nodeAsked q i (p ++ l ∷ []) (onward fs) v k in
             let next : ℕ = i + nodeNumber q (onward fs) v k in
@@ -126,10 +128,10 @@ module _ (q : Query) (b : Bool) (fs : Filter) (base : ℕ) (s : List ℕ) (left 
               level = l;
               own = v;
               kids = k;
-              has = node-has base s left unit hi r ra some few l v k n st;
+              has = node-has base s left unit hi r ra few l v k n st;
               after = record {
                 rest = n;
-                stands = next-stands base s left unit hi r ra some few l v k n st;
+                stands = next-stands base s left unit hi r ra few l v k n st;
                 taken = ta .1;
                 parts = ps ∙ ap (λ (w : List ℕ). done ++ w) (row-in p b fs (q .clock) l v k n (q .offset) (q .limit) i o) ∙ sym (append-assoc done here (rowAsked q next p b fs n));
                 numbers = ns ∙ ap (λ (w : ℕ). i + w) (count-in p b fs (q .clock) l v k n o) ∙ omega arith;
@@ -147,17 +149,16 @@ module _ (q : Query) (b : Bool) (fs : Filter) (base : ℕ) (s : List ℕ) (left 
       go (fork l v k n) st ps ns = absurd (omega (arith, over, st .stands .size, fork-units l v k n))
 
 -- what its visits need
-pub row-ready : (base : ℕ) (s : List ℕ) (left lo hi : ℕ) (filter : List ℕ) (from size : ℕ) (step : Step) (span : Span) → (left ≡ 0 → ⊥) → left ≤ 128 → Below base s lo hi → hi < 4294967296 → size ≤ 65536 * (128 - left)
-    → StepOf filter from step → Spanned base s left lo hi (levelsAt filter from) span → Ready base s left (span .hi) filter from (step .next) size
-row-ready base s left lo hi filter from size step span z d b h k of sp =
+pub row-ready : (base : ℕ) (s : List ℕ) (left lo hi : ℕ) (filter : List ℕ) (from size : ℕ) (walk : Along) → left ≤ 128 → Below base s lo hi → hi < 4294967296 → size ≤ 65536 * (128 - left)
+    → AlongOf base s left lo hi filter from walk → Ready base s left (walk .hi) filter from (walk .next) size
+row-ready base s left lo hi filter from size walk d b h k of =
     record {
-      units = omega (arith, sp .within, b .within);
-      marks = omega (arith, sp .within, b .marks);
-      few = omega (arith, sp .within, h);
-      some = omega (arith, z);
+      units = omega (arith, of .within, b .within);
+      marks = omega (arith, of .within, b .marks);
+      few = omega (arith, of .within, h);
       deep = d;
       goes = of .goes;
-      within = of .within;
+      within = of .next-in;
       small = k;
     }
 

@@ -18,8 +18,8 @@ use Rattle.lookup.specs.declared.Query.{Query}
 use Rattle.lookup.specs.declared.Tally.{Tally}
 use Rattle.lookup.specs.declared.Found.{Found}
 use Rattle.lookup.specs.Standing.{storedIn, Looked, Standing, OwnHolds, NodeHas}
-use Rattle.lookup.specs.Spans.{Taken}
-use Rattle.lookup.specs.Turns.{barredAt, rowAsked, ownNumber, ownAsked, nodeNumber, nodeAsked, Rest}
+use Rattle.lookup.specs.Spans.{Taken, barredAt}
+use Rattle.lookup.specs.Turns.{rowAsked, ownNumber, ownAsked, nodeNumber, nodeAsked, Rest}
 
 -- what was passed before, and these bytes and so many records more
 pub record Told (before : Tally) (bytes : List ℕ) (count : ℕ) (r : Tally) : Type 0 where

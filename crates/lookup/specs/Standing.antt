@@ -51,6 +51,7 @@ pub record OwnHolds (base : ℕ) (s : List ℕ) (at end : ℕ) (v : List Stored)
 
 -- the node at unit i has the level t, holds v, and has the children k
 pub record NodeHas (base : ℕ) (s : List ℕ) (left i : ℕ) (r : Row) (t : Level) (v : List Stored) (k : Forest Stored) : Type 0 where
+  pub deep : 0 < left
   pub len : r .len ≡ length t
   pub text : (m : ℕ) → r .end ≤ m → levelIn base s i m ≡ t
   pub holds : OwnHolds base s (i + levelUnits t) (r .end) v

@@ -1,12 +1,11 @@
 -- FOR THE PROOFS. A walk along a row that has come to a unit: what it has passed and what is left. Assumes nothing.
 use mathlib.Core.Path.{_≡_}
-use mathlib.Core.Bool.{Bool, false, cond, _&&_}
+use mathlib.Core.Bool.{Bool, false, cond}
 use mathlib.Core.List.{List, [], _++_}
 use Prim.Native.Nat.{ℕ, _+_, _-_, _*_, _≤_, _<_}
-use lib.Dec.{eqb}
 use lib.ListN.{length}
 use Rattle.level.specs.Places.{levelsAt}
-use Rattle.topic.specs.Match.{takes, leadWild}
+use Rattle.topic.specs.Match.{takes}
 use Rattle.held.specs.Order.{Filter}
 use Rattle.held.specs.Retained.{Stored}
 use Rattle.held.specs.Forest.{Forest, onward}
@@ -15,10 +14,6 @@ use Rattle.forest.specs.Places.{unitAt}
 use Rattle.lookup.specs.declared.Query.{Query}
 use Rattle.lookup.specs.Standing.{Standing}
 use Rattle.lookup.specs.Spans.{Taken}
-
--- names with a leading '$' are barred in the first row, under a wildcard
-abbrev pub barredAt : (left : ℕ) → Filter → Bool
-barredAt left fs = eqb left 128 && leadWild fs
 
 -- the records of a row below the path p, of which the first has the number i
 abbrev pub rowAsked : Query → (i : ℕ) → (p : Filter) → Bool → (fs : Filter) → Forest Stored → List ℕ
@@ -43,7 +38,6 @@ pub record Ready (base : ℕ) (s : List ℕ) (left hi : ℕ) (filter : List ℕ)
   pub units : unitAt base hi ≤ length s
   pub marks : 64 + hi ≤ base
   pub few : hi < 4294967296
-  pub some : 0 < left
   pub deep : left ≤ 128
   pub goes : levelsAt filter next ≡ onward (levelsAt filter from)
   pub within : next ≤ length filter + 1

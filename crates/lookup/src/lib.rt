@@ -12,11 +12,9 @@ mod steps;
 pub use lives::life_at;
 pub use sizes::in_page;
 pub use sizes::measure;
-pub use spans::bars;
+pub use spans::along_row;
 pub use spans::is_hidden;
-pub use spans::span_of;
 pub use steps::ends_at;
-pub use steps::next_step;
 
 // What is asked: the names at a time, and the page of them.
 pub struct Query {
@@ -46,14 +44,23 @@ pub enum Life {
 
 // The level of a filter that begins at a place: where it ends, where the levels begin that are left below it, and whether it is a
 // wildcard.
-pub struct Step {
-    pub stop: usize,
-    pub next: usize,
-    pub wild: bool,
+struct Step {
+    stop: usize,
+    next: usize,
+    wild: bool,
 }
 
 // Units of a row, from one up to another.
-pub struct Span {
+struct Span {
+    lo: usize,
+    hi: usize,
+}
+
+// How a row is walked: in the units from one up to another, with the levels of the filter from a place on for what is below it,
+// and with names that begin with '$' barred or not.
+pub struct Along {
     pub lo: usize,
     pub hi: usize,
+    pub next: usize,
+    pub barred: bool,
 }

@@ -94,26 +94,20 @@ fn visit(
     size: usize,
     query: Query,
 ) -> Tally
-    requires { ⌜ NodeIn base (now s) i node × (0 < left) × (left ≤ 128) × (next ≤ length (now filter) + 1) × (size ≤ 65536 * (128 - left)) × (before .total ≤ i) × (before .bytes ≤ 8388624 * i) ⌝ }
+    requires { ⌜ NodeIn base (now s) i node × (left ≤ 128) × (next ≤ length (now filter) + 1) × (size ≤ 65536 * (128 - left)) × (before .total ≤ i) × (before .bytes ≤ 8388624 * i) ⌝ }
     ensures { λ r. ⌜ NodeTold query before base (now (s .entry)) left i node (levelsAt (now (filter .entry)) next) size r ⌝ }
 {
+    if left == 0 {
+        return before;
+    }
     let end = node.end;
     let past = node.past;
+    let below = left - 1;
     let text = size + node.len;
+    let long = text + 1;
     let at = smaller(i + (node.len + 23) / 16, end);
-    let with_own = own(before, s, base, at, end, filter, next, text, query);
-    row(
-        with_own,
-        s,
-        base,
-        end,
-        past,
-        left - 1,
-        filter,
-        next,
-        text + 1,
-        query,
-    )
+    let sum = own(before, s, base, at, end, filter, next, text, query);
+    row(sum, s, base, end, past, below, filter, next, long, query)
 }
 
 // The siblings in the units from `lo` up to `hi`, with the levels of the filter from a place on.
@@ -132,19 +126,12 @@ fn row(
     requires { ⌜ Below base (now s) lo hi × (hi < 4294967296) × (left ≤ 128) × (from ≤ length (now filter) + 1) × (size ≤ 65536 * (128 - left)) × (before .total ≤ lo) × (before .bytes ≤ 8388624 * lo) ⌝ }
     ensures { λ r. ⌜ RowTold query before base (now (s .entry)) left lo hi (levelsAt (now (filter .entry)) from) size r ⌝ }
 {
-    if left == 0 {
-        return before;
-    }
-    if filter.len() < from {
-        return before;
-    }
-    let step = steps::next_step(filter, from);
-    let next = step.next;
-    let span = spans::span_of(s, base, lo, hi, left, filter, from, step);
-    let end = span.hi;
-    let barred = spans::bars(left, step.wild);
+    let walk = spans::along_row(s, base, lo, hi, left, filter, from);
+    let next = walk.next;
+    let end = walk.hi;
+    let barred = walk.barred;
     let mut sum = before;
-    let mut i = span.lo;
+    let mut i = walk.lo;
     while i < end {
         let node = forest::row_at(s, base, i, end);
         let past = node.past;

@@ -1,6 +1,6 @@
 -- `lookup::sizes::visit` and `lookup::sizes::row`, which call each other, meet their contracts: the depth left falls. Assumes nothing.
-use Rattle.lookup.proofs.SizeLaws.{node-told, row-shut, row-ended, row-begin, row-hidden, row-visited, row-told}
 use Rattle.lookup.proofs.TurnLaws.{row-ready, node-in}
+use Rattle.lookup.proofs.SizeLaws.{node-shut, node-told, row-begin, row-hidden, row-visited, row-told}
 use Rattle.level.specs.Places.{levelsAt}
 use Rattle.lookup.specs.Turns.{Ready}
 use Rattle.lookup.specs.Sizes.{RowTo}
@@ -17,10 +17,8 @@ use Rattle.lookup.proofs.sizes.+row+visit.Lts-visit as visit-lts
 use Rattle.forest.proofs.row_at.Reads as row-at-reads
 use Rattle.lookup.proofs.sizes.own.Reads as own-reads
 use Rattle.lookup.proofs.sizes.smaller.Reads as smaller-reads
-use Rattle.lookup.proofs.spans.bars.Reads as bars-reads
+use Rattle.lookup.proofs.spans.along_row.Reads as along-row-reads
 use Rattle.lookup.proofs.spans.is_hidden.Reads as is-hidden-reads
-use Rattle.lookup.proofs.spans.span_of.Reads as span-of-reads
-use Rattle.lookup.proofs.steps.next_step.Reads as next-step-reads
 use Rattle.lookup.proofs.sizes.+row+visit.{statement}
 use Rattle.lookup.proofs.sizes.+row+visit.Tie.{close}
 
@@ -43,7 +41,7 @@ abbrev visit-below : ℕ → In 2 visit-kinds.ps
 visit-below t = and 2 visit-kinds.ps (falls 2 visit-kinds.ps _<_ μ-visit t) visit.Pre
 
 abbrev row-claims : ℕ → row-lts.Claims
-row-claims t = (next-step-reads.Asked, next-step-reads.Learnt, span-of-reads.Asked, span-of-reads.Learnt, bars-reads.Asked, bars-reads.Learnt, row-at-reads.Asked, row-at-reads.Learnt, is-hidden-reads.Asked, is-hidden-reads.Learnt, visit-below t, visit.Post)
+row-claims t = (along-row-reads.Asked, along-row-reads.Learnt, row-at-reads.Asked, row-at-reads.Learnt, is-hidden-reads.Asked, is-hidden-reads.Learnt, visit-below t, visit.Post)
 
 abbrev visit-claims : ℕ → visit-lts.Claims
 visit-claims t = (smaller-reads.Asked, smaller-reads.Learnt, own-reads.Asked, own-reads.Learnt, row-below t, row.Post)
@@ -54,20 +52,8 @@ row-Inv-loop s base lo hi left filter from size query next end barred sum₀ i�
 abbrev row-μ-loop : row-lts.MeasureT-loop
 row-μ-loop s base lo hi left filter from size query next end barred sum₀ i₀ sum i = end - i
 
-row-returns : (t : ℕ) → row-lts.Need-returns (row-claims t) (row-at t) row.Post row-Inv-loop row-μ-loop
-row-returns t c = search (needs, row-shut)
-
-row-returns-2 : (t : ℕ) → row-lts.Need-returns-2 (row-claims t) (row-at t) row.Post row-Inv-loop row-μ-loop
-row-returns-2 t c = search (needs, row-ended)
-
-row-next-step-requires : (t : ℕ) → row-lts.Need-next-step-requires (row-claims t) (row-at t) row.Post row-Inv-loop row-μ-loop
-row-next-step-requires t c κs = search needs
-
-row-span-of-requires : (t : ℕ) → row-lts.Need-span-of-requires (row-claims t) (row-at t) row.Post row-Inv-loop row-μ-loop
-row-span-of-requires t c κs = search needs
-
-row-bars-requires : (t : ℕ) → row-lts.Need-bars-requires (row-claims t) (row-at t) row.Post row-Inv-loop row-μ-loop
-row-bars-requires t c κs = search needs
+row-along-row-requires : (t : ℕ) → row-lts.Need-along-row-requires (row-claims t) (row-at t) row.Post row-Inv-loop row-μ-loop
+row-along-row-requires t c κs = search needs
 
 row-loop-holds : (t : ℕ) → row-lts.Need-loop-holds (row-claims t) (row-at t) row.Post row-Inv-loop row-μ-loop
 row-loop-holds t c = (search (needs, row-ready), search (needs, row-begin))
@@ -85,7 +71,7 @@ row-loop-again : (t : ℕ) → row-lts.Need-loop-again (row-claims t) (row-at t)
 row-loop-again t c = (search needs, search (needs, row-hidden))
 
 row-visit-requires : (t : ℕ) → row-lts.Need-visit-requires (row-claims t) (row-at t) row.Post row-Inv-loop row-μ-loop
-row-visit-requires t c κs = (search needs, (search (needs, node-in), search needs, search needs, search needs, search needs, search needs, search needs))
+row-visit-requires t c κs = (search needs, (search (needs, node-in), search needs, search needs, search needs, search needs, search needs))
 
 row-loop-less-2 : (t : ℕ) → row-lts.Need-loop-less-2 (row-claims t) (row-at t) row.Post row-Inv-loop row-μ-loop
 row-loop-less-2 t c = search needs
@@ -93,11 +79,20 @@ row-loop-less-2 t c = search needs
 row-loop-again-2 : (t : ℕ) → row-lts.Need-loop-again-2 (row-claims t) (row-at t) row.Post row-Inv-loop row-μ-loop
 row-loop-again-2 t c = (search needs, search (needs, row-visited))
 
-row-returns-3 : (t : ℕ) → row-lts.Need-returns-3 (row-claims t) (row-at t) row.Post row-Inv-loop row-μ-loop
-row-returns-3 t c = search (needs, row-told)
+row-returns : (t : ℕ) → row-lts.Need-returns (row-claims t) (row-at t) row.Post row-Inv-loop row-μ-loop
+row-returns t c = search (needs, row-told)
+
+visit-returns : (t : ℕ) → visit-lts.Need-returns (visit-claims t) (visit-at t) visit.Post
+visit-returns t c = search (needs, node-shut)
+
+visit-sub-below : (t : ℕ) → visit-lts.Need-sub-below (visit-claims t) (visit-at t) visit.Post
+visit-sub-below t c = search needs
 
 visit-add-text : (t : ℕ) → visit-lts.Need-add-text (visit-claims t) (visit-at t) visit.Post
 visit-add-text t c = search needs
+
+visit-add-long : (t : ℕ) → visit-lts.Need-add-long (visit-claims t) (visit-at t) visit.Post
+visit-add-long t c = search needs
 
 visit-add-smaller : (t : ℕ) → visit-lts.Need-add-smaller (visit-claims t) (visit-at t) visit.Post
 visit-add-smaller t c = search needs
@@ -111,17 +106,11 @@ visit-smaller-requires t c κs = search needs
 visit-own-requires : (t : ℕ) → visit-lts.Need-own-requires (visit-claims t) (visit-at t) visit.Post
 visit-own-requires t c κs = search needs
 
-visit-sub-row : (t : ℕ) → visit-lts.Need-sub-row (visit-claims t) (visit-at t) visit.Post
-visit-sub-row t c = search needs
-
-visit-add-row : (t : ℕ) → visit-lts.Need-add-row (visit-claims t) (visit-at t) visit.Post
-visit-add-row t c = search needs
-
 visit-row-requires : (t : ℕ) → visit-lts.Need-row-requires (visit-claims t) (visit-at t) visit.Post
 visit-row-requires t c κs = search needs
 
-visit-returns : (t : ℕ) → visit-lts.Need-returns (visit-claims t) (visit-at t) visit.Post
-visit-returns t c = search (needs, node-told)
+visit-returns-2 : (t : ℕ) → visit-lts.Need-returns-2 (visit-claims t) (visit-at t) visit.Post
+visit-returns-2 t c = search (needs, node-told)
 
 pub +row+visit-spec : {M : Type 1} → statement M
 +row+visit-spec = close μ-row μ-visit (λ t. row-lts.spec (row-claims t)
@@ -129,11 +118,7 @@ pub +row+visit-spec : {M : Type 1} → statement M
     row.Post
     row-Inv-loop
     row-μ-loop
-    (row-returns t)
-    (row-returns-2 t)
-    (row-next-step-requires t)
-    (row-span-of-requires t)
-    (row-bars-requires t)
+    (row-along-row-requires t)
     (row-loop-holds t)
     (row-row-at-requires t)
     (row-is-hidden-requires t)
@@ -142,16 +127,17 @@ pub +row+visit-spec : {M : Type 1} → statement M
     (row-visit-requires t)
     (row-loop-less-2 t)
     (row-loop-again-2 t)
-    (row-returns-3 t))
+    (row-returns t))
     λ t. visit-lts.spec (visit-claims t)
     (visit-at t)
     visit.Post
+    (visit-returns t)
+    (visit-sub-below t)
     (visit-add-text t)
+    (visit-add-long t)
     (visit-add-smaller t)
     (visit-add-smaller-2 t)
     (visit-smaller-requires t)
     (visit-own-requires t)
-    (visit-sub-row t)
-    (visit-add-row t)
     (visit-row-requires t)
-    (visit-returns t)
+    (visit-returns-2 t)
