@@ -22,7 +22,7 @@ use Rattle.walk.specs.Nodes.{Below}
 use Rattle.walk.proofs.Widths.{width-next}
 use Rattle.lookup.specs.declared.Query.{Query}
 use Rattle.lookup.specs.Standing.{NodeIn, NodeHas}
-use Rattle.lookup.specs.Turns.{barredAt, rowAsked, ownNumber, ownAsked, nodeNumber, nodeAsked}
+use Rattle.lookup.specs.Turns.{rowAsked, ownNumber, ownAsked, nodeNumber, nodeAsked}
 use Rattle.lookup.proofs.SizeLaws.{not-top}
 use Rattle.pages.specs.declared.Spot.{Spot}
 use Rattle.pages.specs.Paths.{pathAt, PathIn, Trail}
@@ -34,7 +34,7 @@ use Rattle.pages.proofs.RecordLaws.{given-both}
 set-other : (path : List ℕ) (j k u : ℕ) → k < j → getD (set path j u) k 0 ≡ getD path k 0
 set-other path j k u h = sym (getD-take j (set path j u) k 0 h) ∙ ap (λ (l : List ℕ). getD l k 0) (take-set-le j path j u (omega arith)) ∙ getD-take j path k 0 h
 
-module _ (base : ℕ) (s : List ℕ) (n : ℕ) (path : List ℕ) (left size i : ℕ) (node : Row) (t : Trail base s n path left size) (some : 0 < left) (inside : NodeIn base s i node) (within : node .past ≤ n) where
+module _ (base : ℕ) (s : List ℕ) (n : ℕ) (path : List ℕ) (left size i : ℕ) (node : Row) (t : Trail base s n path left size) (some : left ≡ 0 → ⊥) (inside : NodeIn base s i node) (within : node .past ≤ n) where
   deeper : 128 - left + 1 ≡ 128 - (left - 1)
   deeper = omega (arith, some, t .within)
 
@@ -93,7 +93,7 @@ module _ (base : ℕ) (s : List ℕ) (n : ℕ) (path : List ℕ) (left size i : 
         let u : unit ≡ i + levelUnits l = omega (arith, at, has .len, has .holds .count) in
         let d : pathAt base s n (set path (128 - left) i) (128 - (left - 1)) ≡ p = path-down ∙ rw (has .text n (omega (arith, inside .within, within))) in
         let x : Given o0 o1 a (ownAsked q (a .number) p gs v) (ownNumber q gs v) b = rw d at (own .is v (rw u (has .holds))) in
-        let y : Given o1 o2 b (rowAsked q (b .number) p false gs k) (rowCount (q .clock) false gs k) c = rw (d, not-top left gs (t .within) some) at (below .is k (has .kids)) in
+        let y : Given o1 o2 b (rowAsked q (b .number) p false gs k) (rowCount (q .clock) false gs k) c = rw (d, not-top left gs (t .within) (has .deep)) at (below .is k (has .kids)) in
         rw (← x .number-is) (given-both o0 o1 o2 a b c (ownAsked q (a .number) p gs v) (rowAsked q (b .number) p false gs k) (ownNumber q gs v) (rowCount (q .clock) false gs k) long x y)
 
     pub node-written : NodeWritten q base s n left i node (levelsAt filter next) path p2 o0 o2 a c
@@ -102,3 +102,15 @@ module _ (base : ℕ) (s : List ℕ) (n : ℕ) (path : List ℕ) (left size i : 
 -- what the row below it needs
 pub node-below : (base : ℕ) (s : List ℕ) (i : ℕ) (node : Row) → NodeIn base s i node → Below base s (node .end) (node .past)
 node-below base s i node h = record { low = h .within; within = h .units; marks = h .marks }
+
+-- no node is deeper than 128
+pub node-shut : (q : Query) (base : ℕ) (s : List ℕ) (n : ℕ) (path old : List ℕ) (left size i : ℕ) (node : Row) (filter : List ℕ) (next : ℕ) (a : Spot) → left ≡ 0 → Trail base s n path left size → NodeIn base s i node
+    → a .at ≤ length old → a .number ≤ i → NodeWritten q base s n left i node (levelsAt filter next) path path old old a a
+node-shut q base s n path old left size i node filter next a z t h r f =
+    record {
+      within = r;
+      most = omega (arith, f, h .on, h .within);
+      rows = t .path-in .long;
+      same = refl;
+      is = λ l v k has. absurd (omega (arith, has .deep, z));
+    }

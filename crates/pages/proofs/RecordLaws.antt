@@ -72,7 +72,7 @@ module _ (base : ℕ) (s : List ℕ) (unit : ℕ) (p : Filter) (text ms : ℕ) (
     front-long = rw length-bytes
 
     back-long : length back ≡ 12
-    back-long = rw (length-append, length-bytes, length-bytes)
+    back-long = rw (length-append, length-bytes 4 handle, length-bytes 8 ms)
 
     begun-long : length (patch at front old) ≡ length old
     begun-long = length-patch at front old (omega (arith, front-long, room, in-room))
@@ -87,7 +87,7 @@ module _ (base : ℕ) (s : List ℕ) (unit : ℕ) (p : Filter) (text ms : ℕ) (
         let l2 : length o2 ≡ length o1 = ap length f2 ∙ length-patch (at + 4 + text) (bytes 4 handle) o1 (rw length-bytes (omega (arith, named-long, room, in-room))) in
         let f3 : o3 ≡ patch (at + 4 + text + 4) (bytes 8 ms) o2 = e3 ∙ write-in (at + 4 + text + 4) (bytes 8 ms) o2 (rw length-bytes (omega (arith, l2, named-long, room, in-room))) in
         let z : at + 4 + text + 4 ≡ at + 4 + text + length (bytes 4 handle) = rw length-bytes in
-        f3 ∙ rw (z, f2) (patch-append (at + 4 + text) (bytes 4 handle) (bytes 8 ms) o1 (rw (length-bytes, length-bytes) (omega (arith, named-long, room, in-room))))
+        f3 ∙ rw (z, f2) (patch-append (at + 4 + text) (bytes 4 handle) (bytes 8 ms) o1 (rw (length-bytes 4 handle, length-bytes 8 ms) (omega (arith, named-long, room, in-room))))
 
     pieces : o3 ≡ patch at (82 ∷ 86 ∷ (bytes 2 text ++ (join p ++ back))) old
     pieces =

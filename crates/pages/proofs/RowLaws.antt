@@ -4,79 +4,42 @@ use mathlib.Core.Bool.{Bool, true, false, _&&_}
 use mathlib.Core.List.{List, [], _∷_, _++_}
 use Prim.Native.Nat.{ℕ, _+_, _-_, _*_, _≤_, _<_}
 use native.Mathlib.Omega.{arith}
-use lib.Dec.{eqb}
 use lib.ListN.{length, take, replicate, length-replicate}
 use Rattle.lent.specs.Parts.{patch}
 use Rattle.level.specs.Kinds.{dollar}
 use Rattle.level.specs.Levels.{split}
 use Rattle.level.specs.Places.{levelsAt}
-use Rattle.level.proofs.Split.{levels-none}
 use Rattle.topic.specs.Match.{leadWild}
 use Rattle.held.specs.Order.{Filter}
 use Rattle.held.specs.Retained.{Stored}
 use Rattle.held.specs.Forest.{onward}
 use Rattle.held.specs.Stream.{rowBytes}
-use Rattle.held.proofs.Equations.{count-none, row-none}
 use Rattle.forest.specs.declared.Row.{Row}
 use Rattle.forest.specs.Places.{unitAt, levelIn, RowAt}
-use Rattle.walk.specs.Nodes.{Below}
-use Rattle.walk.proofs.Heights.{no-height}
 use Rattle.listing.proofs.RecordLaws.{wrote-none, wrote-then}
 use Rattle.lookup.specs.declared.Query.{Query}
-use Rattle.lookup.specs.declared.Step.{Step}
-use Rattle.lookup.specs.declared.Span.{Span}
-use Rattle.lookup.specs.Steps.{StepOf}
+use Rattle.lookup.specs.declared.Along.{Along}
 use Rattle.lookup.specs.Standing.{storedIn, Looked}
-use Rattle.lookup.specs.Spans.{Spanned}
-use Rattle.lookup.specs.Turns.{barredAt, nodeAsked, Ready}
-use Rattle.lookup.proofs.RowLaws.{count-ended, bytes-ended}
+use Rattle.lookup.specs.Spans.{AlongOf}
+use Rattle.lookup.specs.Turns.{nodeAsked, Ready}
 use Rattle.lookup.proofs.TurnLaws.{rest-first, rest-hidden, rest-met, rest-end}
 use Rattle.pages.specs.declared.Spot.{Spot}
 use Rattle.pages.specs.Paths.{levelsOf, pathAt, Trail}
 use Rattle.pages.specs.Written.{Given, NodeWritten, Passed, RowTo, RowWritten}
-use Rattle.pages.proofs.RecordLaws.{given-none}
-
--- a row that gives nothing
-module _ (q : Query) (base : ℕ) (s : List ℕ) (n left lo hi : ℕ) (filter : List ℕ) (from : ℕ) (path old : List ℕ) (a : Spot) (b : Below base s lo hi) (in-room : a .at ≤ length old) (few : a .number ≤ lo) (size : ℕ) (tr : Trail base s n path left size) where
-  pub row-shut : left ≡ 0 → RowWritten q base s n left lo hi (levelsAt filter from) path path old old a a
-  row-shut z =
-      record {
-        within = in-room;
-        most = omega (arith, few, b .low);
-        rows = tr .path-in .long;
-        same = refl;
-        is = λ F st.
-            let l = no-height F (omega (arith, st .low, z)) in
-            let fs = levelsAt filter from in
-            let p : Filter = pathAt base s n path (128 - left) in
-            rw l (given-none old a (row-none p (barredAt left fs) fs (q .clock) (q .offset) (q .limit) (a .number)) (count-none p (barredAt left fs) fs (q .clock)));
-      }
-
-  pub row-ended : length filter < from → RowWritten q base s n left lo hi (levelsAt filter from) path path old old a a
-  row-ended h =
-      record {
-        within = in-room;
-        most = omega (arith, few, b .low);
-        rows = tr .path-in .long;
-        same = refl;
-        is = λ F st.
-            rw (levels-none filter from h)
-            (given-none old a (bytes-ended (q .clock) (q .offset) (q .limit) (a .number) (pathAt base s n path (128 - left)) (barredAt left []) F) (count-ended (q .clock) (barredAt left []) F));
-      }
 
 -- the turns
-pub row-begin : (q : Query) (b : Bool) (base : ℕ) (s : List ℕ) (n left lo hi : ℕ) (filter : List ℕ) (from : ℕ) (path old : List ℕ) (a : Spot) (span : Span) → a .at ≤ length old → a .number ≤ lo
-    → Spanned base s left lo hi (levelsAt filter from) span → RowTo q b (levelsAt filter from) base s n left (span .lo) (span .hi) (span .lo) path path old old a a
-row-begin q b base s n left lo hi filter from path old a span h k sp =
+pub row-begin : (q : Query) (b : Bool) (base : ℕ) (s : List ℕ) (n left lo hi : ℕ) (filter : List ℕ) (from : ℕ) (path old : List ℕ) (a : Spot) (walk : Along) → a .at ≤ length old → a .number ≤ lo
+    → AlongOf base s left lo hi filter from walk → RowTo q b (levelsAt filter from) base s n left (walk .lo) (walk .hi) (walk .lo) path path old old a a
+row-begin q b base s n left lo hi filter from path old a walk h k of =
     record {
       begun = omega arith;
-      inside = sp .on;
+      inside = of .on;
       long = refl;
       within = h;
-      most = omega (arith, k, sp .begun);
+      most = omega (arith, k, of .begun);
       same = refl;
       passed = λ G st ta.
-          record { done = []; rest = rest-first q b (levelsAt filter from) base s left (span .lo) (span .hi) (pathAt base s n path (128 - left)) G (a .number) st ta; wrote = wrote-none old (a .at) };
+          record { done = []; rest = rest-first q b (levelsAt filter from) base s left (walk .lo) (walk .hi) (pathAt base s n path (128 - left)) G (a .number) st ta; wrote = wrote-none old (a .at) };
     }
 
 module _ (q : Query) (b : Bool) (base : ℕ) (s : List ℕ) (n left lo hi i : ℕ) (filter : List ℕ) (from size : ℕ) (path kept old mid : List ℕ) (a sum : Spot)
@@ -99,7 +62,7 @@ module _ (q : Query) (b : Bool) (base : ℕ) (s : List ℕ) (n left lo hi i : �
         same = z .same;
         passed = λ G st ta.
             let x = z .passed G st ta in
-            record { done = x .done; rest = rest-hidden q b fs base s left i hi p G (a .number) (x .done) (sum .number) (x .rest) node ra more (y .some) (y .deep) hidden t; wrote = x .wrote };
+            record { done = x .done; rest = rest-hidden q b fs base s left i hi p G (a .number) (x .done) (sum .number) (x .rest) node ra more (y .deep) hidden t; wrote = x .wrote };
       }
 
   pub row-visited : h ≡ false → (kept2 new : List ℕ) (r : Spot) → length new ≡ length mid → NodeWritten q base s n left i node (levelsAt filter next) kept kept2 mid new sum r
@@ -114,7 +77,7 @@ module _ (q : Query) (b : Bool) (base : ℕ) (s : List ℕ) (n left lo hi i : �
         same = w .same ∙ z .same;
         passed = λ G st ta.
             let x = z .passed G st ta in
-            let m = rest-met q b fs base s left i hi p G (a .number) (x .done) (sum .number) (x .rest) node ra more (y .some) (y .deep) hidden t in
+            let m = rest-met q b fs base s left i hi p G (a .number) (x .done) (sum .number) (x .rest) node ra more (y .deep) hidden t in
             let u = rw (y .goes, z .same) at (w .is (m .level) (m .own) (m .kids) (m .has)) in
             let here : List ℕ = nodeAsked q (sum .number) (p ++ m .level ∷ []) (onward fs) (m .own) (m .kids) in
             record {
@@ -124,23 +87,22 @@ module _ (q : Query) (b : Bool) (base : ℕ) (s : List ℕ) (n left lo hi i : �
             };
       }
 
-pub row-written : (q : Query) (b : Bool) (base : ℕ) (s : List ℕ) (n left lo hi i : ℕ) (filter : List ℕ) (from : ℕ) (path kept old new : List ℕ) (a sum : Spot) (step : Step) (span : Span) → StepOf filter from step
-    → Spanned base s left lo hi (levelsAt filter from) span → b ≡ (eqb left 128 && step .wild) → RowTo q b (levelsAt filter from) base s n left (span .lo) (span .hi) i path kept old new a sum → span .hi ≤ i → (size : ℕ) → Trail base s n kept left size
+pub row-written : (q : Query) (base : ℕ) (s : List ℕ) (n left lo hi i : ℕ) (filter : List ℕ) (from size : ℕ) (path kept old new : List ℕ) (a sum : Spot) (walk : Along) → AlongOf base s left lo hi filter from walk
+    → Trail base s n kept left size → RowTo q (walk .barred) (levelsAt filter from) base s n left (walk .lo) (walk .hi) i path kept old new a sum → walk .hi ≤ i
     → RowWritten q base s n left lo hi (levelsAt filter from) path kept old new a sum
-row-written q b base s n left lo hi i filter from path kept old new a sum step span of sp bar z over size tr =
+row-written q base s n left lo hi i filter from size path kept old new a sum walk of tr z over =
     let fs : Filter = levelsAt filter from in
     let p : Filter = pathAt base s n path (128 - left) in
-    let is : b ≡ barredAt left fs = bar ∙ ap (λ (w : Bool). eqb left 128 && w) (of .wild-is) in
     record {
       within = z .within;
-      most = omega (arith, z .most, z .inside, sp .within);
+      most = omega (arith, z .most, z .inside, of .within);
       rows = tr .path-in .long;
       same = z .same;
       is = λ F st.
-          let g = sp .is F st in
+          let g = of .is F st in
           let y = z .passed (g .nodes) (g .stands) (g .taken) in
-          let d = rest-end q b fs base s left i (span .hi) p (g .nodes) (a .number) (y .done) (sum .number) (y .rest) over in
-          rw (← is, g .bytes-are (q .clock) (q .offset) (q .limit) (a .number) p b, g .count-is (q .clock) b)
+          let d = rest-end q (walk .barred) fs base s left i (walk .hi) p (g .nodes) (a .number) (y .done) (sum .number) (y .rest) over in
+          rw (← of .barred-is, g .bytes-are (q .clock) (q .offset) (q .limit) (a .number) p (walk .barred), g .count-is (q .clock) (walk .barred))
           (record { wrote = rw (d .0) (y .wrote); number-is = sym (d .1) });
     }
 

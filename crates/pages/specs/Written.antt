@@ -15,10 +15,15 @@ use Rattle.forest.specs.Places.{unitAt}
 use Rattle.listing.specs.Written.{Wrote}
 use Rattle.lookup.specs.declared.Query.{Query}
 use Rattle.lookup.specs.Standing.{Standing, OwnHolds, NodeHas}
-use Rattle.lookup.specs.Spans.{Taken}
-use Rattle.lookup.specs.Turns.{barredAt, rowAsked, ownNumber, ownAsked, nodeNumber, nodeAsked, Rest}
+use Rattle.lookup.specs.Spans.{Taken, barredAt}
+use Rattle.lookup.specs.Turns.{rowAsked, ownNumber, ownAsked, nodeNumber, nodeAsked, Rest}
+use Rattle.pages.specs.declared.Ask.{Ask}
 use Rattle.pages.specs.declared.Spot.{Spot}
 use Rattle.pages.specs.Paths.{pathAt}
+
+-- the query of what is asked
+abbrev pub queryOf : Ask → Query
+queryOf a = record { clock = a .clock; offset = a .offset; limit = a .limit }
 
 -- the record in a unit, with `ms` left, under the name p
 pub record RecordWritten (base : ℕ) (s : List ℕ) (unit : ℕ) (p : Filter) (ms : ℕ) (old new : List ℕ) (at next : ℕ) : Type 0 where

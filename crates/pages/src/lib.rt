@@ -8,10 +8,14 @@ mod writing;
 
 pub use writing::write_all;
 
-// The units of a region: where they begin, and how many are in use.
-pub struct Area {
+// What is asked: of the units of a region, which begin at `base` and of which n are in use, the names at a time, and the page of
+// them.
+pub struct Ask {
     pub base: usize,
     pub n: usize,
+    pub clock: u64,
+    pub offset: u64,
+    pub limit: u64,
 }
 
 // How far the writing has come: the place in the buffer, and the number of the next record.

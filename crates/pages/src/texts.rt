@@ -9,7 +9,7 @@ ghost use Rattle.level.specs.Levels.{width};
 ghost use Rattle.listing.specs.Trails.{slashed};
 ghost use Rattle.listing.specs.Written.{WroteLevel};
 ghost use Rattle.pages.specs.Paths.{pathAt, PathIn};
-use crate::Area;
+use crate::Ask;
 
 // A level, and a '/'.
 fn write_level(out: &mut [u8], at: usize, level: &[u8]) -> usize
@@ -23,12 +23,12 @@ fn write_level(out: &mut [u8], at: usize, level: &[u8]) -> usize
 }
 
 // The levels of a path at a depth, each with a '/' after it.
-fn write_text(out: &mut [u8], at: usize, path: &[usize; 128], s: &[u8], area: Area, depth: usize)
-    requires { ⌜ PathIn (area .base) (now s) (area .n) (now path) depth × (at + width (pathAt (area .base) (now s) (area .n) (now path) depth) ≤ length (now out)) ⌝ }
-    ensures { λ _. ⌜ now (out .exit) ≡ patch at (slashed (pathAt (area .base) (now (s .entry)) (area .n) (now (path .entry)) depth)) (now (out .entry)) ⌝ }
+fn write_text(out: &mut [u8], at: usize, path: &[usize; 128], s: &[u8], ask: Ask, depth: usize)
+    requires { ⌜ PathIn (ask .base) (now s) (ask .n) (now path) depth × (at + width (pathAt (ask .base) (now s) (ask .n) (now path) depth) ≤ length (now out)) ⌝ }
+    ensures { λ _. ⌜ now (out .exit) ≡ patch at (slashed (pathAt (ask .base) (now (s .entry)) (ask .n) (now (path .entry)) depth)) (now (out .entry)) ⌝ }
 {
-    let base = area.base;
-    let n = area.n;
+    let base = ask.base;
+    let n = ask.n;
     let mut j: usize = 0;
     let mut next = at;
     while j < depth {
@@ -43,14 +43,14 @@ pub fn write_name(
     at: usize,
     path: &[usize; 128],
     s: &[u8],
-    area: Area,
+    ask: Ask,
     depth: usize,
     text: usize,
 )
-    requires { ⌜ PathIn (area .base) (now s) (area .n) (now path) depth × (at + 4 + width (pathAt (area .base) (now s) (area .n) (now path) depth) ≤ length (now out)) ⌝ }
-    ensures { λ _. ⌜ now (out .exit) ≡ patch (at + 4) (slashed (pathAt (area .base) (now (s .entry)) (area .n) (now (path .entry)) depth)) (patch at (82 ∷ 86 ∷ bytes 2 text) (now (out .entry))) ⌝ }
+    requires { ⌜ PathIn (ask .base) (now s) (ask .n) (now path) depth × (at + 4 + width (pathAt (ask .base) (now s) (ask .n) (now path) depth) ≤ length (now out)) ⌝ }
+    ensures { λ _. ⌜ now (out .exit) ≡ patch (at + 4) (slashed (pathAt (ask .base) (now (s .entry)) (ask .n) (now (path .entry)) depth)) (patch at (82 ∷ 86 ∷ bytes 2 text) (now (out .entry))) ⌝ }
 {
     lent::copy_in(out, at, b"RV");
     lent::put16(out, at + 2, text as u64);
-    write_text(out, at + 4, path, s, area, depth);
+    write_text(out, at + 4, path, s, ask, depth);
 }

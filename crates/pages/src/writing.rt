@@ -12,12 +12,11 @@ ghost use Rattle.forest.specs.Places.{unitAt};
 ghost use Rattle.walk.specs.Nodes.{Below};
 ghost use Rattle.lookup.specs.Standing.{storedIn, Looked, NodeIn};
 ghost use Rattle.pages.specs.Paths.{Trail};
-ghost use Rattle.pages.specs.Written.{NodeWritten, RowWritten};
-use crate::Area;
+ghost use Rattle.pages.specs.Written.{queryOf, NodeWritten, RowWritten};
+use crate::Ask;
 use crate::Spot;
-use crate::records;
+use crate::records::write_own;
 use forest::Row;
-use lookup::Query;
 
 fn smaller(a: usize, b: usize) -> usize
     ensures { λ r. ⌜ r ≡ min a b ⌝ }
@@ -32,53 +31,30 @@ fn visit(
     out: &mut [u8],
     path: &mut [usize; 128],
     s: &[u8],
-    area: Area,
+    ask: Ask,
     i: usize,
     node: Row,
     left: usize,
     filter: &[u8],
     next: usize,
     size: usize,
-    query: Query,
 ) -> Spot
-    requires { ⌜ NodeIn (area .base) (now s) i node × (node .past ≤ area .n) × (0 < left) × (next ≤ length (now filter) + 1) × Trail (area .base) (now s) (area .n) (now path) left size × (spot .at ≤ length (now out)) × (spot .number ≤ i) ⌝ }
-    ensures { λ r. ⌜ NodeWritten query (area .base) (now (s .entry)) (area .n) left i node (levelsAt (now (filter .entry)) next) (now (path .entry)) (now (path .exit)) (now (out .entry)) (now (out .exit)) spot r ⌝ }
+    requires { ⌜ NodeIn (ask .base) (now s) i node × (node .past ≤ ask .n) × (next ≤ length (now filter) + 1) × Trail (ask .base) (now s) (ask .n) (now path) left size × (spot .at ≤ length (now out)) × (spot .number ≤ i) ⌝ }
+    ensures { λ r. ⌜ NodeWritten (queryOf ask) (ask .base) (now (s .entry)) (ask .n) left i node (levelsAt (now (filter .entry)) next) (now (path .entry)) (now (path .exit)) (now (out .entry)) (now (out .exit)) spot r ⌝ }
 {
+    if left == 0 {
+        return spot;
+    }
     let end = node.end;
     let past = node.past;
     let below = left - 1;
-    let level = forest::level_at(s, area.base, i, area.n);
+    let level = forest::level_at(s, ask.base, i, ask.n);
     let text = size + level.len();
-    let unit = smaller(i + (node.len + 23) / 16, end);
+    let long = text + 1;
+    let at = smaller(i + (node.len + 23) / 16, end);
     path[128 - left] = i;
-    let own = records::write_own(
-        spot,
-        out,
-        path,
-        s,
-        area,
-        unit,
-        end,
-        below,
-        filter,
-        next,
-        text,
-        query,
-    );
-    row(
-        own,
-        out,
-        path,
-        s,
-        area,
-        end,
-        past,
-        below,
-        filter,
-        next,
-        text + 1,
-        query,
-    )
+    let own = write_own(spot, out, path, s, ask, at, end, below, filter, next, text);
+    row(own, out, path, s, ask, end, past, below, filter, next, long)
 }
 
 // The siblings in the units from `lo` up to `hi`, with the levels of the filter from a place on.
@@ -87,32 +63,24 @@ fn row(
     out: &mut [u8],
     path: &mut [usize; 128],
     s: &[u8],
-    area: Area,
+    ask: Ask,
     lo: usize,
     hi: usize,
     left: usize,
     filter: &[u8],
     from: usize,
     size: usize,
-    query: Query,
 ) -> Spot
-    requires { ⌜ Below (area .base) (now s) lo hi × (hi ≤ area .n) × (hi < 4294967296) × (from ≤ length (now filter) + 1) × Trail (area .base) (now s) (area .n) (now path) left size × (spot .at ≤ length (now out)) × (spot .number ≤ lo) ⌝ }
-    ensures { λ r. ⌜ RowWritten query (area .base) (now (s .entry)) (area .n) left lo hi (levelsAt (now (filter .entry)) from) (now (path .entry)) (now (path .exit)) (now (out .entry)) (now (out .exit)) spot r ⌝ }
+    requires { ⌜ Below (ask .base) (now s) lo hi × (hi ≤ ask .n) × (hi < 4294967296) × (from ≤ length (now filter) + 1) × Trail (ask .base) (now s) (ask .n) (now path) left size × (spot .at ≤ length (now out)) × (spot .number ≤ lo) ⌝ }
+    ensures { λ r. ⌜ RowWritten (queryOf ask) (ask .base) (now (s .entry)) (ask .n) left lo hi (levelsAt (now (filter .entry)) from) (now (path .entry)) (now (path .exit)) (now (out .entry)) (now (out .exit)) spot r ⌝ }
 {
-    if left == 0 {
-        return spot;
-    }
-    if filter.len() < from {
-        return spot;
-    }
-    let base = area.base;
-    let step = lookup::next_step(filter, from);
-    let next = step.next;
-    let span = lookup::span_of(s, base, lo, hi, left, filter, from, step);
-    let end = span.hi;
-    let barred = lookup::bars(left, step.wild);
+    let base = ask.base;
+    let walk = lookup::along_row(s, base, lo, hi, left, filter, from);
+    let next = walk.next;
+    let end = walk.hi;
+    let barred = walk.barred;
     let mut sum = spot;
-    let mut i = span.lo;
+    let mut i = walk.lo;
     while i < end {
         let node = forest::row_at(s, base, i, end);
         let past = node.past;
@@ -120,20 +88,7 @@ fn row(
             i = past;
             continue;
         }
-        sum = visit(
-            sum,
-            out,
-            path,
-            s,
-            area,
-            i,
-            node,
-            left,
-            filter,
-            next,
-            size,
-            query,
-        );
+        sum = visit(sum, out, path, s, ask, i, node, left, filter, next, size);
         i = past;
     }
     sum
@@ -156,25 +111,13 @@ pub fn write_all(
         → now (out .exit) ≡ patch 0 (rowBytes clock offset limit 0 [] (leadWild (split (now (filter .entry)))) (split (now (filter .entry))) (storedIn base (now (s .entry)) n)) (now (out .entry))) ⌝ }
 {
     let mut path: [usize; 128] = [0; 128];
-    let area = Area { base, n };
-    let query = Query {
+    let ask = Ask {
+        base,
+        n,
         clock,
         offset,
         limit,
     };
     let start = Spot { at: 0, number: 0 };
-    row(
-        start,
-        out,
-        &mut path,
-        s,
-        area,
-        0,
-        n,
-        128,
-        filter,
-        0,
-        0,
-        query,
-    );
+    row(start, out, &mut path, s, ask, 0, n, 128, filter, 0, 0);
 }

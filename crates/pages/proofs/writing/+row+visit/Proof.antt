@@ -1,12 +1,12 @@
 -- `pages::writing::visit` and `pages::writing::row`, which call each other, meet their contracts: the depth left falls. Assumes nothing.
 use Rattle.pages.proofs.PathLaws.{trail-kept}
-use Rattle.pages.proofs.NodeLaws.{trail-down, node-written, node-below}
-use Rattle.pages.proofs.RowLaws.{row-shut, row-ended, row-begin, row-hidden, row-visited, row-written}
+use Rattle.pages.proofs.NodeLaws.{trail-down, node-written, node-shut, node-below}
+use Rattle.pages.proofs.RowLaws.{row-begin, row-hidden, row-visited, row-written}
 use Rattle.level.specs.Places.{levelsAt}
 use Rattle.lookup.specs.Turns.{Ready}
 use Rattle.lookup.proofs.TurnLaws.{row-ready, node-in}
 use Rattle.pages.specs.Paths.{Trail}
-use Rattle.pages.specs.Written.{RowTo}
+use Rattle.pages.specs.Written.{queryOf, RowTo}
 use denote.Ref.{now}
 use borrow.Author.Needs.{needs}
 use Prim.Native.Nat.{ℕ, _+_, _-_, _*_, _≤_, _<_}
@@ -20,10 +20,8 @@ use Rattle.pages.proofs.writing.visit.Kinds as visit-kinds
 use Rattle.pages.proofs.writing.+row+visit.Lts-visit as visit-lts
 use Rattle.forest.proofs.level_at.Reads as level-at-reads
 use Rattle.forest.proofs.row_at.Reads as row-at-reads
-use Rattle.lookup.proofs.bars.Reads as bars-reads
+use Rattle.lookup.proofs.along_row.Reads as along-row-reads
 use Rattle.lookup.proofs.is_hidden.Reads as is-hidden-reads
-use Rattle.lookup.proofs.span_of.Reads as span-of-reads
-use Rattle.lookup.proofs.next_step.Reads as next-step-reads
 use Rattle.pages.proofs.records.write_own.Reads as write-own-reads
 use Rattle.pages.proofs.writing.smaller.Reads as smaller-reads
 use Rattle.pages.proofs.writing.+row+visit.{statement}
@@ -48,33 +46,20 @@ abbrev visit-below : ℕ → In 4 visit-kinds.ps
 visit-below t = and 4 visit-kinds.ps (falls 4 visit-kinds.ps _<_ μ-visit t) visit.Pre
 
 abbrev row-claims : ℕ → row-lts.Claims
-row-claims t = (next-step-reads.Asked, next-step-reads.Learnt, span-of-reads.Asked, span-of-reads.Learnt, bars-reads.Asked, bars-reads.Learnt, row-at-reads.Asked, row-at-reads.Learnt, is-hidden-reads.Asked, is-hidden-reads.Learnt, visit-below t, visit.Post)
+row-claims t = (along-row-reads.Asked, along-row-reads.Learnt, row-at-reads.Asked, row-at-reads.Learnt, is-hidden-reads.Asked, is-hidden-reads.Learnt, visit-below t, visit.Post)
 
 abbrev visit-claims : ℕ → visit-lts.Claims
 visit-claims t = (level-at-reads.Asked, level-at-reads.Learnt, smaller-reads.Asked, smaller-reads.Learnt, write-own-reads.Asked, write-own-reads.Learnt, row-below t, row.Post)
 
 abbrev row-Inv-loop : row-lts.InvT-loop
-row-Inv-loop out₀ path₀ s area lo hi left filter from size query base next end barred sum₀ i₀ out path sum i =
-    Ready base s left end filter from next size × Trail base s (area .n) path left size × (end ≤ area .n) × RowTo query barred (levelsAt filter from) base s (area .n) left i₀ end i path₀ path out₀ out sum₀ sum
+row-Inv-loop out₀ path₀ s ask lo hi left filter from size base next end barred sum₀ i₀ out path sum i =
+    Ready base s left end filter from next size × Trail base s (ask .n) path left size × (end ≤ ask .n) × RowTo (queryOf ask) barred (levelsAt filter from) base s (ask .n) left i₀ end i path₀ path out₀ out sum₀ sum
 
 abbrev row-μ-loop : row-lts.MeasureT-loop
-row-μ-loop out₀ path₀ s area lo hi left filter from size query base next end barred sum₀ i₀ out path sum i =
-    end - i
+row-μ-loop out₀ path₀ s ask lo hi left filter from size base next end barred sum₀ i₀ out path sum i = end - i
 
-row-returns : (t : ℕ) → row-lts.Need-returns (row-claims t) (row-at t) row.Post row-Inv-loop row-μ-loop
-row-returns t c = search (needs, row-shut)
-
-row-returns-2 : (t : ℕ) → row-lts.Need-returns-2 (row-claims t) (row-at t) row.Post row-Inv-loop row-μ-loop
-row-returns-2 t c = search (needs, row-ended)
-
-row-next-step-requires : (t : ℕ) → row-lts.Need-next-step-requires (row-claims t) (row-at t) row.Post row-Inv-loop row-μ-loop
-row-next-step-requires t c κs = search needs
-
-row-span-of-requires : (t : ℕ) → row-lts.Need-span-of-requires (row-claims t) (row-at t) row.Post row-Inv-loop row-μ-loop
-row-span-of-requires t c κs = search needs
-
-row-bars-requires : (t : ℕ) → row-lts.Need-bars-requires (row-claims t) (row-at t) row.Post row-Inv-loop row-μ-loop
-row-bars-requires t c κs = search needs
+row-along-row-requires : (t : ℕ) → row-lts.Need-along-row-requires (row-claims t) (row-at t) row.Post row-Inv-loop row-μ-loop
+row-along-row-requires t c κs = search needs
 
 row-loop-holds : (t : ℕ) → row-lts.Need-loop-holds (row-claims t) (row-at t) row.Post row-Inv-loop row-μ-loop
 row-loop-holds t c = (search (needs, row-ready), search needs, search needs, search (needs, row-begin))
@@ -92,7 +77,7 @@ row-loop-again : (t : ℕ) → row-lts.Need-loop-again (row-claims t) (row-at t)
 row-loop-again t c = (search needs, search needs, search needs, search (needs, row-hidden))
 
 row-visit-requires : (t : ℕ) → row-lts.Need-visit-requires (row-claims t) (row-at t) row.Post row-Inv-loop row-μ-loop
-row-visit-requires t c κs = (search needs, (search (needs, node-in), search needs, search needs, search needs, search needs, search needs, search needs))
+row-visit-requires t c κs = (search needs, (search (needs, node-in), search needs, search needs, search needs, search needs, search needs))
 
 row-loop-less-2 : (t : ℕ) → row-lts.Need-loop-less-2 (row-claims t) (row-at t) row.Post row-Inv-loop row-μ-loop
 row-loop-less-2 t c = search needs
@@ -103,8 +88,11 @@ row-loop-again-2 t c = (search needs, search (needs, trail-kept), search needs, 
 row-same-length : (t : ℕ) → row-lts.Need-same-length (row-claims t) (row-at t) row.Post row-Inv-loop row-μ-loop
 row-same-length t c = search needs
 
-row-returns-3 : (t : ℕ) → row-lts.Need-returns-3 (row-claims t) (row-at t) row.Post row-Inv-loop row-μ-loop
-row-returns-3 t c = search (needs, row-written)
+row-returns : (t : ℕ) → row-lts.Need-returns (row-claims t) (row-at t) row.Post row-Inv-loop row-μ-loop
+row-returns t c = search (needs, row-written)
+
+visit-returns : (t : ℕ) → visit-lts.Need-returns (visit-claims t) (visit-at t) visit.Post
+visit-returns t c = search (needs, node-shut)
 
 visit-sub-below : (t : ℕ) → visit-lts.Need-sub-below (visit-claims t) (visit-at t) visit.Post
 visit-sub-below t c = search needs
@@ -114,6 +102,9 @@ visit-level-at-requires t c κs = search needs
 
 visit-add-text : (t : ℕ) → visit-lts.Need-add-text (visit-claims t) (visit-at t) visit.Post
 visit-add-text t c = search needs
+
+visit-add-long : (t : ℕ) → visit-lts.Need-add-long (visit-claims t) (visit-at t) visit.Post
+visit-add-long t c = search needs
 
 visit-add-smaller : (t : ℕ) → visit-lts.Need-add-smaller (visit-claims t) (visit-at t) visit.Post
 visit-add-smaller t c = search needs
@@ -136,21 +127,18 @@ visit-element-write-path t c = search needs
 visit-write-own-requires : (t : ℕ) → visit-lts.Need-write-own-requires (visit-claims t) (visit-at t) visit.Post
 visit-write-own-requires t c κs = (search (needs, trail-down), search needs, search needs, search needs)
 
-visit-add-row : (t : ℕ) → visit-lts.Need-add-row (visit-claims t) (visit-at t) visit.Post
-visit-add-row t c = search needs
-
 visit-row-requires : (t : ℕ) → visit-lts.Need-row-requires (visit-claims t) (visit-at t) visit.Post
 visit-row-requires t c κs = (search needs, (search (needs, node-below), search needs, search needs, search needs, search (needs, trail-down), search needs, search needs))
 
 visit-same-length : (t : ℕ) → visit-lts.Need-same-length (visit-claims t) (visit-at t) visit.Post
 visit-same-length t c = search needs
 
-visit-returns : (t : ℕ) → visit-lts.Need-returns (visit-claims t) (visit-at t) visit.Post
-visit-returns t c =
+visit-returns-2 : (t : ℕ) → visit-lts.Need-returns-2 (visit-claims t) (visit-at t) visit.Post
+visit-returns-2 t c =
     let owned = c .before .before .before .before .before .before .before in
-    let start = c .before .before .before .before .before .before .before .before .before .before .before .before .before .before .before .before in
+    let start = c .before .before .before .before .before .before .before .before .before .before .before .before .before .before .before .before .before in
     let p = start .pre .1 in
-    node-written _ _ _ _ _ _ _ _ (p .4) (p .2) (p .0) (p .1) _ (now (start .args .filter)) (start .args .next) _ (search needs) _ _ _ _ _ _ _ (search needs) (owned .write-own .ensures) (c .before .before .row .ensures)
+    node-written _ _ _ _ _ _ _ _ (p .3) (search needs) (p .0) (p .1) _ (now (start .args .filter)) (start .args .next) _ (search needs) _ _ _ _ _ _ _ (search needs) (owned .write-own .ensures) (c .before .before .row .ensures)
 
 pub +row+visit-spec : {M : Type 1} → statement M
 +row+visit-spec = close μ-row μ-visit (λ t. row-lts.spec (row-claims t)
@@ -158,11 +146,7 @@ pub +row+visit-spec : {M : Type 1} → statement M
     row.Post
     row-Inv-loop
     row-μ-loop
-    (row-returns t)
-    (row-returns-2 t)
-    (row-next-step-requires t)
-    (row-span-of-requires t)
-    (row-bars-requires t)
+    (row-along-row-requires t)
     (row-loop-holds t)
     (row-row-at-requires t)
     (row-is-hidden-requires t)
@@ -172,13 +156,15 @@ pub +row+visit-spec : {M : Type 1} → statement M
     (row-loop-less-2 t)
     (row-loop-again-2 t)
     (row-same-length t)
-    (row-returns-3 t))
+    (row-returns t))
     λ t. visit-lts.spec (visit-claims t)
     (visit-at t)
     visit.Post
+    (visit-returns t)
     (visit-sub-below t)
     (visit-level-at-requires t)
     (visit-add-text t)
+    (visit-add-long t)
     (visit-add-smaller t)
     (visit-add-smaller-2 t)
     (visit-smaller-requires t)
@@ -186,7 +172,6 @@ pub +row+visit-spec : {M : Type 1} → statement M
     (visit-mul-path t)
     (visit-element-write-path t)
     (visit-write-own-requires t)
-    (visit-add-row t)
     (visit-row-requires t)
     (visit-same-length t)
-    (visit-returns t)
+    (visit-returns-2 t)
