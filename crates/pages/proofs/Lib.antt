@@ -1,0 +1,5 @@
+pub mod PathLaws
+pub mod TextLaws
+pub mod RecordLaws
+pub mod NodeLaws
+pub mod RowLaws
