@@ -8,3 +8,4 @@ pub mod RunLaws
 pub mod Added
 pub mod Taken
 pub mod CountLaws
+pub mod GiveLaws

@@ -3,3 +3,4 @@ pub mod Runs
 pub mod Adding
 pub mod Taking
 pub mod Counts
+pub mod Given

@@ -17,3 +17,9 @@ pub enum Changed {
     Done(u64),
     Refused(Refusal),
 }
+
+// What a listing or a lookup answers: how many bytes and records it has, or the refusal.
+pub enum Listed {
+    Given { bytes: usize, records: usize },
+    Refused(Refusal),
+}

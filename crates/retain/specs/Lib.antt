@@ -2,3 +2,4 @@ pub mod Calls
 pub mod Slots
 pub mod Units
 pub mod Counted
+pub mod Lookups

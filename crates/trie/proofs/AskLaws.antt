@@ -6,7 +6,6 @@ use Prim.Native.Nat.{ℕ, _+_, _^_, _≤_, _<_}
 use native.Mathlib.Omega.{arith}
 use lib.Dec.{ltb}
 use lib.ListN.{length}
-use borrow.Author.Tests.{lt-ltb, le-ltb}
 use Rattle.refusal.specs.declared.Refusal.{Refusal}
 use Rattle.refusal.specs.declared.Refusal.the-variants.{NotAStore, ShortRoom}
 use Rattle.lent.specs.Parts.{patch}
@@ -18,10 +17,8 @@ use Rattle.topic.specs.declared.Checked.{Checked}
 use Rattle.topic.specs.declared.Checked.the-variants.{Accepted, Refused as NotAccepted}
 use Rattle.topic.specs.declared.Matched.{Matched}
 use Rattle.topic.specs.declared.Matched.the-variants.{Yes, No, Refused as MatchRefused}
-use Rattle.topic.proofs.RuleLaws.{orElse, checked-append}
 use Rattle.held.specs.Order.{Filter}
 use Rattle.held.specs.Ascending.{All}
-use Rattle.held.specs.Bytes.{lengthRule}
 use Rattle.held.specs.History.{accepted}
 use Rattle.held.specs.Subscriptions.{listing, isMatch, listingBytes, listingRules}
 use Rattle.held.specs.Forest.{Forest, held}
@@ -46,11 +43,13 @@ use Rattle.change.proofs.HoldsLaws.{units-within, room-small}
 use Rattle.change.proofs.StoreLaws.{store-holds}
 use Rattle.audit.specs.Decides.{Decides}
 use Rattle.edit.proofs.KnownPath.{no-units-told, all-is, stands}
+use Rattle.edit.specs.declared.Listed.{Listed}
+use Rattle.edit.specs.declared.Listed.the-variants.{Given, Refused}
+use Rattle.edit.specs.Given.{listedBy}
 use Rattle.edit.proofs.CallLaws.{none, one}
-use Rattle.trie.specs.declared.Listed.{Listed}
-use Rattle.trie.specs.declared.Listed.the-variants.{Given, Refused}
+use Rattle.edit.proofs.GiveLaws.{give-none, give-refused, give-all, give-other, give-store, text-refuses, buffer-short, buffer-fits}
 use Rattle.trie.specs.Calls.{heldIn}
-use Rattle.trie.specs.Listings.{answerOf, matchedBy, Asks, AsksKnown, listedBy, writtenBy, Lists, ListsKnown}
+use Rattle.trie.specs.Listings.{answerOf, matchedBy, Asks, AsksKnown, Lists, ListsKnown}
 
 -- the forest of a store stands in its units, and is at most 128 deep
 module _ (s : List ℕ) {base n room : ℕ} (units : UnitsOf s base n room) (st : SubscriptionStore s) where
@@ -90,10 +89,16 @@ module _ (s name : List ℕ) where
 
 -- the listing
 module _ (s name : List ℕ) where
+  abbrev out-bytes : List ℕ
+  out-bytes = listingBytes (split name) (heldIn s)
+
+  abbrev list-answer : Checked → Listed
+  list-answer = listedBy out-bytes (length (listing (split name) (heldIn s)))
+
   pub list-none : (out : List ℕ) {r : Shape} → ShapeOf s r → r ≡ Not → ListsKnown s name out out (Refused NotAStore)
   list-none out h e =
-      let no : SubscriptionStore s → ⊥ = λ (st : SubscriptionStore s). no-units-told values 1 s (forestAt valueOf s) (store-holds s st) h e in
-      record { told = λ (st : SubscriptionStore s). absurd (no st); given = λ (st : SubscriptionStore s). absurd (no st) }
+      give-none (SubscriptionStore s) (listingRules name (length out) (heldIn s)) list-answer out-bytes
+      (λ (st : SubscriptionStore s). no-units-told values 1 s (forestAt valueOf s) (store-holds s st) h e) out (Refused NotAStore)
 
   module _ {base n room : ℕ} (units : UnitsOf s base n room) (fine : checked (nameRules name) ≡ Accepted) (size : length name ≤ 65535) {m : Measured}
       (sized : Walked base s n → Sized nothing (length (listBytes (split name) (valuesIn base s n))) (listCount (split name) (valuesIn base s n)) m) where
@@ -113,35 +118,19 @@ module _ (s name : List ℕ) where
       records-is : m .records ≡ length (listing (split name) (heldIn s))
       records-is = exact .records-are ∙ ap (listCount (split name)) (values-are s units st) ∙ list-text name (ap accepted fine) (forestAt valueOf s) (st .well) .1
 
-    -- an accepted name is refused for the room of the buffer alone
-    rules-as : (out : List ℕ) → checked (listingRules name (length out) (heldIn s)) ≡ checked (lengthRule (length out) (listingBytes (split name) (heldIn s)) ∷ [])
-    rules-as out =
-        checked-append (nameRules name) (lengthRule (length out) (listingBytes (split name) (heldIn s)) ∷ [])
-        ∙ ap (λ (c : Checked). orElse c (checked (lengthRule (length out) (listingBytes (split name) (heldIn s)) ∷ []))) fine
-
-    short-rules : (st : SubscriptionStore s) (out : List ℕ) → length out < m .bytes → checked (listingRules name (length out) (heldIn s)) ≡ NotAccepted (ShortRoom (m .bytes))
-    short-rules st out h = rules-as out ∙ rw (← bytes-is st, lt-ltb (length out) (m .bytes) h)
-
-    room-rules : (st : SubscriptionStore s) (out : List ℕ) → m .bytes ≤ length out → checked (listingRules name (length out) (heldIn s)) ≡ Accepted
-    room-rules st out h = rules-as out ∙ rw (← bytes-is st, le-ltb (length out) (m .bytes) h)
-
     pub list-short : (out : List ℕ) → length out < m .bytes → ListsKnown s name out out (Refused (ShortRoom (m .bytes)))
     list-short out h =
-        record {
-          told = λ (st : SubscriptionStore s). rw (short-rules st out h);
-          given = λ (st : SubscriptionStore s). rw (short-rules st out h);
-        }
+        give-refused (SubscriptionStore s) (listingRules name (length out) (heldIn s)) list-answer out-bytes out (ShortRoom (m .bytes))
+        (λ (st : SubscriptionStore s). buffer-short (nameRules name) out-bytes out fine (bytes-is st) h)
 
     pub list-given : (out after : List ℕ) → m .bytes ≤ length out
         → (Walked base s n → length (listBytes (split name) (valuesIn base s n)) ≤ length out → after ≡ patch 0 (listBytes (split name) (valuesIn base s n)) out)
         → ListsKnown s name out after (Given (m .bytes) (m .records))
     list-given out after h w =
-        record {
-          told = λ (st : SubscriptionStore s). rw (room-rules st out h, bytes-is st, records-is st);
-          given = λ (st : SubscriptionStore s).
-              let z : after ≡ patch 0 (listingBytes (split name) (heldIn s)) out = rw (bytes-as st) at (w (walked s units st) (omega (arith, exact st .bytes-are, h))) in
-              rw (room-rules st out h) z;
-        }
+        give-all (SubscriptionStore s) (listingRules name (length out) (heldIn s)) list-answer out-bytes out after
+        (λ (st : SubscriptionStore s). buffer-fits (nameRules name) out-bytes out fine (bytes-is st) h) (Given (m .bytes) (m .records))
+        (λ (st : SubscriptionStore s). rw (bytes-is st, records-is st))
+        (λ (st : SubscriptionStore s). rw (bytes-as st) at (w (walked s units st) (omega (arith, exact st .bytes-are, h))))
 
 -- the name is tested before the walk
 module _ (s name : List ℕ) {k : Checked} (e : k ≡ checked (nameRules name)) where
@@ -150,10 +139,8 @@ module _ (s name : List ℕ) {k : Checked} (e : k ≡ checked (nameRules name)) 
 
   pub list-refused : (out : List ℕ) {x : Refusal} → k ≡ NotAccepted x → ListsKnown s name out out (Refused x)
   list-refused out {x} q =
-      let z : checked (listingRules name (length out) (heldIn s)) ≡ NotAccepted x =
-      checked-append (nameRules name) (lengthRule (length out) (listingBytes (split name) (heldIn s)) ∷ [])
-      ∙ ap (λ (c : Checked). orElse c (checked (lengthRule (length out) (listingBytes (split name) (heldIn s)) ∷ []))) (sym e ∙ q) in
-      record { told = λ (st : SubscriptionStore s). rw z; given = λ (st : SubscriptionStore s). rw z }
+      give-refused (SubscriptionStore s) (listingRules name (length out) (heldIn s)) (list-answer s name) (out-bytes s name) out x
+      (λ (st : SubscriptionStore s). text-refuses (nameRules name) (out-bytes s name) out e q)
 
   pub name-fine : k ≡ Accepted → checked (nameRules name) ≡ Accepted
   name-fine q = sym e ∙ q
@@ -170,11 +157,7 @@ module _ (s name : List ℕ) {t : Bool} (d : Decides t (SubscriptionStore s)) wh
   ask-store h a = record { on-store = a; on-other = λ (n : SubscriptionStore s → ⊥). absurd (n (one d h)) }
 
   pub list-other : (out : List ℕ) → not t ≡ true → Lists s name out out (Refused NotAStore)
-  list-other out h =
-      record {
-        on-store = record { told = λ (st : SubscriptionStore s). absurd (none d h st); given = λ (st : SubscriptionStore s). absurd (none d h st) };
-        on-other = λ (n : SubscriptionStore s → ⊥). (refl, refl);
-      }
+  list-other out h = give-other (SubscriptionStore s) (listingRules name (length out) (heldIn s)) (list-answer s name) (out-bytes s name) d out h
 
   pub list-store : {out : List ℕ} → not t ≡ false → {after : List ℕ} {r : Listed} → ListsKnown s name out after r → Lists s name out after r
-  list-store h a = record { on-store = a; on-other = λ (n : SubscriptionStore s → ⊥). absurd (n (one d h)) }
+  list-store {out} h a = give-store (SubscriptionStore s) (listingRules name (length out) (heldIn s)) (list-answer s name) (out-bytes s name) d h a

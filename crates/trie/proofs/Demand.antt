@@ -22,7 +22,7 @@ use Rattle.region.specs.Store.{roomAt, SubscriptionStore}
 use Rattle.region.proofs.Stores.{opened-forest, opened-subscriptions}
 use Rattle.edit.specs.Runs.{Runs}
 use Rattle.edit.proofs.RunLaws.{RunHolds, run-holds}
-use Rattle.trie.specs.declared.Listed.{Listed}
+use Rattle.edit.specs.declared.Listed.{Listed}
 use Rattle.trie.specs.Calls.{heldIn, subscriptionStore}
 use Rattle.trie.specs.Listings.{Lists}
 
@@ -49,8 +49,8 @@ module _ {cs ds : List Call} {s t u v : List ℕ} (a : Empty s) (b : Empty u) (x
       f ∙ same-held (roomAt s) (roomAt u) cs ds r q same ∙ sym g
 
   -- and a listing answers and writes the same, into buffers that were the same
-  pub runs-list : {name before after after' : List ℕ} {r q : Listed} → Lists t name before after r → Lists v name before after' q → (r ≡ q) × (after ≡ after')
-  runs-list {name} {before} {after} {after'} {r} {q} k l =
+  pub runs-list : (name before : List ℕ) {after after' : List ℕ} {r q : Listed} → Lists t name before after r → Lists v name before after' q → (r ≡ q) × (after ≡ after')
+  runs-list name before k l =
       let m = rw runs-hold at (k .on-store .told (one .store)) in
       let n = rw runs-hold at (k .on-store .given (one .store)) in
       (m ∙ sym (l .on-store .told (other .store)), n ∙ sym (l .on-store .given (other .store)))

@@ -5,7 +5,6 @@ use mathlib.Core.Bool.{Bool, true, false}
 use mathlib.Core.List.{List}
 use lib.ListN.{length}
 use Rattle.refusal.specs.declared.Refusal.the-variants.{NotAStore}
-use Rattle.lent.specs.Parts.{patch}
 use Rattle.level.specs.Levels.{split}
 use Rattle.topic.specs.Rules.{nameRules}
 use Rattle.topic.specs.Answers.{checked}
@@ -15,8 +14,8 @@ use Rattle.topic.specs.declared.Matched.{Matched}
 use Rattle.topic.specs.declared.Matched.the-variants.{Yes, No, Refused as MatchRefused}
 use Rattle.held.specs.Subscriptions.{listing, isMatch, listingBytes, listingRules}
 use Rattle.region.specs.Store.{SubscriptionStore}
-use Rattle.trie.specs.declared.Listed.{Listed}
-use Rattle.trie.specs.declared.Listed.the-variants.{Given, Refused}
+use Rattle.edit.specs.declared.Listed.{Listed}
+use Rattle.edit.specs.Given.{listedBy, GivesKnown, Gives}
 use Rattle.trie.specs.Calls.{heldIn}
 
 -- yes, no, or what the name is refused for
@@ -36,19 +35,13 @@ pub record Asks (s name : List ℕ) (r : Matched) : Type 0 where
   pub on-store : AsksKnown s name r
   pub on-other : (SubscriptionStore s → ⊥) → r ≡ MatchRefused NotAStore
 
--- the listing into a buffer: its bytes and records; "16 .. and then nothing is written"; "Bytes past the listing stay."
-abbrev pub listedBy : Checked → List ℕ → (records : ℕ) → Listed
-listedBy Accepted out records = Given (length out) records
-listedBy (NotAccepted r) out records = Refused r
+-- the listing for a name into a buffer
+abbrev pub ListsKnown : (s name before after : List ℕ) → Listed → Type 0
+ListsKnown s name before after r =
+    GivesKnown (SubscriptionStore s) (listingRules name (length before) (heldIn s)) (listedBy (listingBytes (split name) (heldIn s)) (length (listing (split name) (heldIn s))))
+    (listingBytes (split name) (heldIn s)) before after r
 
-abbrev pub writtenBy : Checked → List ℕ → List ℕ → List ℕ
-writtenBy Accepted out buffer = patch 0 out buffer
-writtenBy (NotAccepted r) out buffer = buffer
-
-pub record ListsKnown (s name before after : List ℕ) (r : Listed) : Type 0 where
-  pub told : SubscriptionStore s → r ≡ listedBy (checked (listingRules name (length before) (heldIn s))) (listingBytes (split name) (heldIn s)) (length (listing (split name) (heldIn s)))
-  pub given : SubscriptionStore s → after ≡ writtenBy (checked (listingRules name (length before) (heldIn s))) (listingBytes (split name) (heldIn s)) before
-
-pub record Lists (s name before after : List ℕ) (r : Listed) : Type 0 where
-  pub on-store : ListsKnown s name before after r
-  pub on-other : (SubscriptionStore s → ⊥) → (r ≡ Refused NotAStore) × (after ≡ before)
+abbrev pub Lists : (s name before after : List ℕ) → Listed → Type 0
+Lists s name before after r =
+    Gives (SubscriptionStore s) (listingRules name (length before) (heldIn s)) (listedBy (listingBytes (split name) (heldIn s)) (length (listing (split name) (heldIn s))))
+    (listingBytes (split name) (heldIn s)) before after r

@@ -10,7 +10,7 @@ ghost use Rattle.topic.specs.Answers.{checked};
 ghost use Rattle.topic.specs.declared.Checked.the-variants.{Accepted};
 ghost use Rattle.region.specs.Shapes.{UnitsOf};
 ghost use Rattle.trie.specs.Listings.{Asks, AsksKnown, Lists, ListsKnown};
-use crate::Listed;
+use edit::Listed;
 use refusal::Refusal;
 use region::Kind;
 use region::Shape;

@@ -21,12 +21,6 @@ use region::Pairs;
 pub use sizes::nodes_size;
 pub use sizes::values_size;
 
-// A listing: how many bytes and records it has, or why there is none.
-pub enum Listed {
-    Given { bytes: usize, records: usize },
-    Refused(Refusal),
-}
-
 // The nodes that a store has, or why there are none to tell.
 pub enum NodesSize {
     Held(Nodes),

@@ -1,0 +1,31 @@
+use borrow.Author.Needs.{needs}
+use Rattle.retain.proofs.asking.look_in.Statement.{statement}
+use Rattle.retain.proofs.asking.look_in.Tie as tie
+use Rattle.retain.proofs.asking.look_in.Reads as reads
+use Rattle.retain.proofs.asking.look_in.Lts as lts
+use Rattle.lookup.proofs.measure.Reads as measure-reads
+use Rattle.pages.proofs.write_all.Reads as write-all-reads
+
+-- src/asking.rt:33:9
+measure-requires : tie.Need-measure-requires
+measure-requires c κs = search needs
+
+-- src/asking.rt:37:9
+returns : tie.Need-returns
+returns c = search needs
+
+-- src/asking.rt:39:5
+write-all-requires : tie.Need-write-all-requires
+write-all-requires c κs = search needs
+
+-- src/asking.rt:21:1
+same-length : tie.Need-same-length
+same-length c = search needs
+
+-- src/asking.rt:21:1
+returns-2 : tie.Need-returns-2
+returns-2 c = search needs
+
+pub look-in-spec : {M : Type 1} → statement M
+look-in-spec =
+    tie.close (tie.spec measure-requires returns write-all-requires same-length returns-2)

@@ -1,0 +1,16 @@
+use borrow.Author.Needs.{needs}
+use Rattle.retain.proofs.paging.more_follows.Statement.{statement}
+use Rattle.retain.proofs.paging.more_follows.Tie as tie
+use Rattle.retain.proofs.paging.more_follows.Reads as reads
+use Rattle.retain.proofs.paging.more_follows.Lts as lts
+
+-- src/paging.rt:19:9
+returns : tie.Need-returns
+returns c = search needs
+
+-- src/paging.rt:14:1
+returns-2 : tie.Need-returns-2
+returns-2 c = search needs
+
+pub more-follows-spec : {M : Type 1} → statement M
+more-follows-spec = tie.close (tie.spec returns returns-2)
