@@ -6,3 +6,4 @@ pub mod SetLaws
 pub mod EraseLaws
 pub mod KnownLaws
 pub mod NamesCounted
+pub mod LookLaws

@@ -1,3 +1,4 @@
+use Rattle.retain.proofs.LookLaws.{look-refused, filter-fine}
 use borrow.Author.Needs.{needs}
 use Rattle.retain.proofs.asking.get_known.Statement.{statement}
 use Rattle.retain.proofs.asking.get_known.Tie as tie
@@ -16,14 +17,14 @@ enum-known-text c = search needs
 
 -- src/asking.rt:71:9
 returns : tie.Need-returns
-returns c = search needs
+returns c = search (needs, look-refused)
 
 enum-told : tie.Need-enum-told
 enum-told c = search needs
 
 -- src/asking.rt:73:5
 look-accepted-requires : tie.Need-look-accepted-requires
-look-accepted-requires c κs = search needs
+look-accepted-requires c κs = search (needs, filter-fine)
 
 -- src/asking.rt:66:1
 same-length : tie.Need-same-length

@@ -1,3 +1,5 @@
+use Rattle.edit.proofs.KnownPath.{units-told}
+use Rattle.retain.proofs.LookLaws.{look-none}
 use borrow.Author.Needs.{needs}
 use Rattle.retain.proofs.asking.look_accepted.Statement.{statement}
 use Rattle.retain.proofs.asking.look_accepted.Tie as tie
@@ -20,11 +22,11 @@ enum-told c = search needs
 
 -- src/asking.rt:50:9
 returns : tie.Need-returns
-returns c = search needs
+returns c = search (needs, look-none)
 
 -- src/asking.rt:52:5
 look-in-requires : tie.Need-look-in-requires
-look-in-requires c κs = search needs
+look-in-requires c κs = search (needs, units-told)
 
 -- src/asking.rt:44:1
 same-length : tie.Need-same-length

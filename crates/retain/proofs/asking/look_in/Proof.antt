@@ -1,3 +1,4 @@
+use Rattle.retain.proofs.LookLaws.{look-units, look-short, look-given}
 use borrow.Author.Needs.{needs}
 use Rattle.retain.proofs.asking.look_in.Statement.{statement}
 use Rattle.retain.proofs.asking.look_in.Tie as tie
@@ -8,15 +9,15 @@ use Rattle.pages.proofs.write_all.Reads as write-all-reads
 
 -- src/asking.rt:33:9
 measure-requires : tie.Need-measure-requires
-measure-requires c κs = search needs
+measure-requires c κs = search (needs, look-units)
 
 -- src/asking.rt:37:9
 returns : tie.Need-returns
-returns c = search needs
+returns c = search (needs, look-short)
 
 -- src/asking.rt:39:5
 write-all-requires : tie.Need-write-all-requires
-write-all-requires c κs = search needs
+write-all-requires c κs = search (needs, look-units)
 
 -- src/asking.rt:21:1
 same-length : tie.Need-same-length
@@ -24,7 +25,7 @@ same-length c = search needs
 
 -- src/asking.rt:21:1
 returns-2 : tie.Need-returns-2
-returns-2 c = search needs
+returns-2 c = search (needs, look-given)
 
 pub look-in-spec : {M : Type 1} → statement M
 look-in-spec =

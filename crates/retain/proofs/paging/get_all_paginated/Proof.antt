@@ -1,3 +1,4 @@
+use Rattle.retain.proofs.LookLaws.{page-other, page-store}
 use borrow.Author.Needs.{needs}
 use Rattle.retain.proofs.paging.get_all_paginated.Statement.{statement}
 use Rattle.retain.proofs.paging.get_all_paginated.Tie as tie
@@ -12,7 +13,7 @@ is-store-requires c κs = search needs
 
 -- src/paging.rt:64:9
 returns : tie.Need-returns
-returns c = search needs
+returns c = search (needs, page-other)
 
 -- src/paging.rt:66:5
 get-all-paginated-known-requires : tie.Need-get-all-paginated-known-requires
@@ -24,7 +25,7 @@ same-length c = search needs
 
 -- src/paging.rt:54:1
 returns-2 : tie.Need-returns-2
-returns-2 c = search needs
+returns-2 c = search (needs, page-store)
 
 pub get-all-paginated-spec : {M : Type 1} → statement M
 get-all-paginated-spec =

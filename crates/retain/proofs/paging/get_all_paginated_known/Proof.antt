@@ -1,3 +1,5 @@
+use Rattle.edit.proofs.KnownPath.{units-told}
+use Rattle.retain.proofs.LookLaws.{page-none}
 use borrow.Author.Needs.{needs}
 use Rattle.retain.proofs.paging.get_all_paginated_known.Statement.{statement}
 use Rattle.retain.proofs.paging.get_all_paginated_known.Tie as tie
@@ -20,11 +22,11 @@ enum-told c = search needs
 
 -- src/paging.rt:81:9
 returns : tie.Need-returns
-returns c = search needs
+returns c = search (needs, page-none)
 
 -- src/paging.rt:83:5
 page-in-requires : tie.Need-page-in-requires
-page-in-requires c κs = search needs
+page-in-requires c κs = search (needs, units-told)
 
 -- src/paging.rt:70:1
 same-length : tie.Need-same-length

@@ -1,3 +1,4 @@
+use Rattle.retain.proofs.LookLaws.{look-units, page-short, page-given}
 use borrow.Author.Needs.{needs}
 use Rattle.retain.proofs.paging.page_in.Statement.{statement}
 use Rattle.retain.proofs.paging.page_in.Tie as tie
@@ -13,7 +14,7 @@ slice-aggregate-measure c = search needs
 
 -- src/paging.rt:38:9
 measure-requires : tie.Need-measure-requires
-measure-requires c κs = search needs
+measure-requires c κs = search (needs, look-units)
 
 -- src/paging.rt:41:9
 more-follows-requires : tie.Need-more-follows-requires
@@ -21,7 +22,7 @@ more-follows-requires c κs = search needs
 
 -- src/paging.rt:43:9
 returns : tie.Need-returns
-returns c = search needs
+returns c = search (needs, page-short)
 
 -- src/paging.rt:45:34
 slice-aggregate-write-all : tie.Need-slice-aggregate-write-all
@@ -29,7 +30,7 @@ slice-aggregate-write-all c = search needs
 
 -- src/paging.rt:45:5
 write-all-requires : tie.Need-write-all-requires
-write-all-requires c κs = search needs
+write-all-requires c κs = search (needs, look-units)
 
 -- src/paging.rt:25:1
 same-length : tie.Need-same-length
@@ -37,7 +38,7 @@ same-length c = search needs
 
 -- src/paging.rt:25:1
 returns-2 : tie.Need-returns-2
-returns-2 c = search needs
+returns-2 c = search (needs, page-given)
 
 pub page-in-spec : {M : Type 1} → statement M
 page-in-spec =
