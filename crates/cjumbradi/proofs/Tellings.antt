@@ -8,8 +8,6 @@ use Rattle.refusal.specs.Refusals.{Told, _at_}
 use Rattle.level.specs.Places.{first, endOf}
 use Rattle.topic.specs.Answers.{partAt, placeAt}
 use Rattle.topic.proofs.LevelLaws.{part-in-place}
-use Rattle.trie.specs.declared.Listed.{Listed}
-use Rattle.cjumbradi.specs.Stores.{recordsOf}
 
 -- a number and a value that are those of what is to be told
 pub told-is : {n v : ℕ} {t : Told} → v ≡ t .place → n ≡ t .number → (n at v) ≡ t
@@ -23,9 +21,9 @@ said of e q = e ∙ ap of q
 pub told-arm : {A : Type 0} (of : A → Told) {x y : A} {t : Told} → t ≡ of y → x ≡ y → t ≡ of x
 told-arm of e q = e ∙ ap of (sym q)
 
--- the second value of a listing
-pub count-arm : {x y : Listed} {k : ℕ} → k ≡ recordsOf y → x ≡ y → k ≡ recordsOf x
-count-arm e q = e ∙ ap recordsOf (sym q)
+-- another value of an answer
+pub value-arm : {A : Type 0} (of : A → ℕ) {x y : A} {k : ℕ} → k ≡ of y → x ≡ y → k ≡ of x
+value-arm of e q = e ∙ ap of (sym q)
 
 -- a level's length, from where it begins and where it ends
 pub part-length : (s : List ℕ) (k : ℕ) {from end : ℕ} → from ≡ placeAt s k → end ≡ endOf s from → end - from ≡ length (partAt s k)

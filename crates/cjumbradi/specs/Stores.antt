@@ -2,14 +2,15 @@
 -- a value. Assumes nothing.
 use mathlib.Core.Path.{_≡_}
 use Prim.Native.Nat.{ℕ}
-use mathlib.Core.List.{List}
+use mathlib.Core.Bool.{cond}
 use Rattle.refusal.specs.Refusals.{Told, _at_, told}
 use Rattle.held.specs.History.{Outcome, answered, refused}
 use Rattle.edit.specs.declared.Changed.{Changed}
 use Rattle.edit.specs.declared.Changed.the-variants.{Done, Refused}
-use Rattle.trie.specs.declared.Listed.{Listed}
-use Rattle.trie.specs.declared.Listed.the-variants.{Given, Refused as NotGiven}
-use Rattle.trie.specs.Listings.{Lists}
+use Rattle.edit.specs.declared.Listed.{Listed}
+use Rattle.edit.specs.declared.Listed.the-variants.{Given, Refused as NotGiven}
+use Rattle.retain.specs.declared.Paged.{Paged}
+use Rattle.retain.specs.declared.Paged.the-variants.{Given as PageGiven, Refused as NoPage}
 
 abbrev pub ofChanged : Changed → Told
 ofChanged (Done n) = 0 at n
@@ -25,7 +26,7 @@ pub record Tells {A : Type 0} (of : A → Told) (Promised : A → Type 0) (t : T
   pub promised : Promised answer
   pub said : t ≡ of answer
 
--- a listing: its bytes and its number of records, which is 0 where it is refused
+-- a listing or a lookup: its bytes, and its number of records, which is 0 where it is refused
 abbrev pub ofListed : Listed → Told
 ofListed (Given bytes records) = 0 at bytes
 ofListed (NotGiven r) = told r
@@ -34,8 +35,28 @@ abbrev pub recordsOf : Listed → ℕ
 recordsOf (Given bytes records) = records
 recordsOf (NotGiven r) = 0
 
-pub record TellsListing (s name before after : List ℕ) (t : Told) (records : ℕ) : Type 0 where
+pub record TellsListing (Promised : Listed → Type 0) (t : Told) (records : ℕ) : Type 0 where
   pub answer : Listed
-  pub promised : Lists s name before after answer
+  pub promised : Promised answer
   pub said : t ≡ ofListed answer
   pub counted : records ≡ recordsOf answer
+
+-- a page: also 1 if more follows, and 0 if not or where it is refused
+abbrev pub ofPaged : Paged → Told
+ofPaged (PageGiven bytes records more) = 0 at bytes
+ofPaged (NoPage r) = told r
+
+abbrev pub pageRecordsOf : Paged → ℕ
+pageRecordsOf (PageGiven bytes records more) = records
+pageRecordsOf (NoPage r) = 0
+
+abbrev pub followsOf : Paged → ℕ
+followsOf (PageGiven bytes records more) = cond more 1 0
+followsOf (NoPage r) = 0
+
+pub record TellsPage (Promised : Paged → Type 0) (t : Told) (records follows : ℕ) : Type 0 where
+  pub answer : Paged
+  pub promised : Promised answer
+  pub said : t ≡ ofPaged answer
+  pub counted : records ≡ pageRecordsOf answer
+  pub more-told : follows ≡ followsOf answer

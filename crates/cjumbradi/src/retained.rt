@@ -1,4 +1,4 @@
-// The calls on a store of retained names: setting and erasing, the sweep of what has expired, and the count.
+// The calls on a store of retained names: setting and erasing, lookups and pages, the sweep of what has expired, and the count.
 ghost use mathlib.Core.Path.{_≡_};
 ghost use lib.ListN.{length};
 ghost use Rattle.refusal.specs.Refusals.{_at_};
@@ -7,10 +7,13 @@ ghost use Rattle.region.specs.Store.{RetainedStore};
 ghost use Rattle.edit.specs.Calls.{Calls};
 ghost use Rattle.edit.specs.Counts.{Counts};
 ghost use Rattle.retain.specs.Calls.{heldIn, retainedStore, storedAs};
-ghost use Rattle.cjumbradi.specs.Stores.{ofChanged, ofOutcome, Tells};
+ghost use Rattle.retain.specs.Lookups.{Looks, Pages};
+ghost use Rattle.cjumbradi.specs.Stores.{ofChanged, ofOutcome, Tells, TellsListing, TellsPage};
 ghost use Rattle.cjumbradi.specs.Moments.{momentGiven};
 use crate::telling::tell_changed;
+use crate::telling::tell_listed;
 use crate::telling::tell_names;
+use crate::telling::tell_paged;
 use retain::Moment;
 
 // A moment as a caller gives it.
@@ -37,6 +40,37 @@ pub extern "C" fn cjumbradi_set(
 {
     let when = moment_given(expires, moment);
     tell_changed(retain::set(region, name, payload, handle, when), answer)
+}
+
+#[no_mangle]
+pub extern "C" fn cjumbradi_lookup(
+    region: &[u8],
+    filter: &[u8],
+    clock: u64,
+    out: &mut [u8],
+    bytes: &mut u64,
+    records: &mut u64,
+) -> u64
+    ensures { λ n. ⌜ TellsListing (Looks (now (region .entry)) (now (filter .entry)) clock (now (out .entry)) (now (out .exit))) (n at now (bytes .exit)) (now (records .exit)) ⌝ }
+{
+    tell_listed(retain::get(region, filter, clock, out), bytes, records)
+}
+
+#[no_mangle]
+pub extern "C" fn cjumbradi_page(
+    region: &[u8],
+    clock: u64,
+    offset: u64,
+    limit: u64,
+    out: &mut [u8],
+    bytes: &mut u64,
+    records: &mut u64,
+    more: &mut u64,
+) -> u64
+    ensures { λ n. ⌜ TellsPage (Pages (now (region .entry)) clock offset limit (now (out .entry)) (now (out .exit))) (n at now (bytes .exit)) (now (records .exit)) (now (more .exit)) ⌝ }
+{
+    let page = retain::get_all_paginated(region, clock, offset, limit, out);
+    tell_paged(page, bytes, records, more)
 }
 
 #[no_mangle]

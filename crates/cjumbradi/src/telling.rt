@@ -1,20 +1,22 @@
 // How an answer is told to C: a number is returned, and a value is handed back.
 ghost use mathlib.Core.Path.{_≡_};
+ghost use mathlib.Core.Bool.{cond};
 ghost use Rattle.refusal.specs.Refusals.{_at_, told};
 ghost use Rattle.cjumbradi.specs.Calls.{ofChecked, ofParsed, ofMatched, ofBool, ofKind};
 ghost use Rattle.cjumbradi.specs.Regions.{ofSize};
 ghost use Rattle.trie.specs.Sizes.{nodesTold, valuesTold};
 ghost use Rattle.retain.specs.Counted.{namesTold};
-ghost use Rattle.cjumbradi.specs.Stores.{ofChanged, ofListed, recordsOf, ofOutcome};
+ghost use Rattle.cjumbradi.specs.Stores.{ofChanged, ofListed, recordsOf, ofPaged, pageRecordsOf, followsOf, ofOutcome};
 use edit::Changed;
+use edit::Listed;
 use level::Kind;
 use refusal::Refusal;
 use region::Size;
 use retain::Names;
+use retain::Paged;
 use topic::Checked;
 use topic::Matched;
 use topic::Parsed;
-use trie::Listed;
 use trie::NodesSize;
 use trie::ValuesSize;
 
@@ -101,7 +103,7 @@ pub fn tell_changed(changed: Changed, value: &mut u64) -> u64
     }
 }
 
-// A listing has two values: its bytes, or the place of the refusal, and its records.
+// A listing or a lookup has two values: its bytes, or the place of the refusal, and its records.
 pub fn tell_listed(listed: Listed, value: &mut u64, count: &mut u64) -> u64
     ensures { λ n. ⌜ ((n at now (value .exit)) ≡ ofListed listed) × (now (count .exit) ≡ recordsOf listed) ⌝ }
 {
@@ -112,6 +114,37 @@ pub fn tell_listed(listed: Listed, value: &mut u64, count: &mut u64) -> u64
         }
         Listed::Refused(refusal) => {
             *count = 0;
+            return tell_refusal(refusal, value);
+        }
+    }
+}
+
+fn one_if(yes: bool) -> u64
+    ensures { λ n. ⌜ n ≡ cond yes 1 0 ⌝ }
+{
+    if yes {
+        return 1;
+    }
+    0
+}
+
+// A page has three: also whether more follows.
+pub fn tell_paged(paged: Paged, value: &mut u64, count: &mut u64, follows: &mut u64) -> u64
+    ensures { λ n. ⌜ ((n at now (value .exit)) ≡ ofPaged paged) × (now (count .exit) ≡ pageRecordsOf paged) × (now (follows .exit) ≡ followsOf paged) ⌝ }
+{
+    match paged {
+        Paged::Given {
+            bytes,
+            records,
+            more,
+        } => {
+            *count = records as u64;
+            *follows = one_if(more);
+            return tell_found(bytes as u64, value);
+        }
+        Paged::Refused(refusal) => {
+            *count = 0;
+            *follows = 0;
             return tell_refusal(refusal, value);
         }
     }

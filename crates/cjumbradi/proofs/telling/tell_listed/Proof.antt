@@ -1,6 +1,6 @@
 use borrow.Author.Needs.{needs}
-use Rattle.cjumbradi.proofs.Tellings.{told-arm, count-arm}
-use Rattle.cjumbradi.specs.Stores.{ofListed}
+use Rattle.cjumbradi.proofs.Tellings.{told-arm, value-arm}
+use Rattle.cjumbradi.specs.Stores.{ofListed, recordsOf}
 use Rattle.cjumbradi.proofs.telling.tell_listed.Statement.{statement}
 use Rattle.cjumbradi.proofs.telling.tell_listed.Tie as tie
 use Rattle.cjumbradi.proofs.telling.tell_listed.Reads as reads
@@ -18,7 +18,7 @@ tell-found-requires c κs = search needs
 
 -- src/telling.rt:119:13
 returns : tie.Need-returns
-returns c = search (needs, told-arm ofListed, count-arm)
+returns c = search (needs, told-arm ofListed, value-arm recordsOf)
 
 -- src/telling.rt:121:25
 enum-known-listed-2 : tie.Need-enum-known-listed-2
@@ -30,7 +30,7 @@ tell-refusal-requires c κs = search needs
 
 -- src/telling.rt:123:13
 returns-2 : tie.Need-returns-2
-returns-2 c = search (needs, told-arm ofListed, count-arm)
+returns-2 c = search (needs, told-arm ofListed, value-arm recordsOf)
 
 pub tell-listed-spec : {M : Type 1} → statement M
 tell-listed-spec =
