@@ -1,18 +1,29 @@
 -- What is measured is the lookup, or the page, of what is held as a reader knows it. Assumes nothing.
-use mathlib.Core.Path.{_≡_, sym, ap, _∙_}
-use mathlib.Core.Bool.{Bool}
+use mathlib.Core.Path.{_≡_, ap, _∙_}
 use mathlib.Core.List.{List, [], _∷_}
-use Prim.Native.Nat.{ℕ, _+_, _-_, _≤_, min}
+use Prim.Native.Nat.{ℕ, _+_, _-_, _≤_}
 use native.Mathlib.Omega.{arith}
 use lib.Dec.{ltb}
 use lib.ListN.{length, length-take, length-drop}
 use Rattle.held.specs.Order.{Filter}
-use Rattle.held.specs.Retained.{Named, lookup, lookupBytes, page, pageBytes, more}
-use Rattle.held.specs.Forest.{hash, held}
+use Rattle.held.specs.Retained.{Stored, Named, lookup, lookupBytes, page, pageBytes, more}
+use Rattle.held.specs.Forest.{Forest, hash, held}
+use Rattle.held.specs.Edit.{Owns, Single}
 use Rattle.held.proofs.Streams.{lookup-bytes, page-bytes, lookup-count, page-more}
+use Rattle.region.specs.Units.{storedBytes}
+use Rattle.region.proofs.Instances.{records, SmallStored}
+use Rattle.forest.specs.Stands.{Stands}
+use Rattle.forest.proofs.StandsLaws.{stands-read}
+use Rattle.walk.specs.Height.{heightF}
 use Rattle.lookup.specs.declared.Found.{Found}
 use Rattle.lookup.specs.Standing.{storedIn, Looked}
 use Rattle.lookup.specs.Sizes.{Measured}
+
+-- a forest that stands in the units is the one that a lookup rests on
+pub forest-looked : (base : ℕ) (s : List ℕ) (n : ℕ) (F : Forest Stored) → Stands storedBytes SmallStored base s 1 0 n F → Owns Single F → heightF F ≤ 128 → Looked base s n × (storedIn base s n ≡ F)
+forest-looked base s n F w o h =
+    let e : storedIn base s n ≡ F = stands-read records base s 1 0 n F w in
+    (rw e (record { stands = w; single = o; low = h }), e)
 
 -- the lookup of a filter: all its records are given
 pub record LookupFound (f : Filter) (clock : ℕ) (h : List Named) (r : Found) : Type 0 where

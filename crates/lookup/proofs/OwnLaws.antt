@@ -1,7 +1,7 @@
 -- A node's own record: it is one or none, and what it gives. Assumes nothing.
-use mathlib.Core.Path.{_≡_, refl, sym, ap, _∙_}
+use mathlib.Core.Path.{_≡_, refl, _∙_}
 use mathlib.Core.Bool.{Bool, true, false, cond}
-use mathlib.Core.List.{List, [], _∷_, _++_, append-nil}
+use mathlib.Core.List.{List, [], _∷_, append-nil}
 use Prim.Native.Nat.{ℕ, _+_, _-_, _*_, _≤_, _<_}
 use native.Mathlib.Omega.{arith}
 use lib.ListN.{length, length-append}
@@ -19,7 +19,6 @@ use Rattle.held.specs.Stream.{inPage, ownCount, ownBytes}
 use Rattle.region.specs.Units.{storedBytes, storedOf}
 use Rattle.region.proofs.Instances.{SmallStored, stored-back}
 use Rattle.forest.specs.Places.{unitAt}
-use Rattle.lookup.specs.declared.Life.{Life}
 use Rattle.lookup.specs.declared.Life.the-variants.{Over, Left}
 use Rattle.lookup.specs.declared.Query.{Query}
 use Rattle.lookup.specs.Lives.{lifeOf}
@@ -31,8 +30,6 @@ pub record OneHeld (base : ℕ) (s : List ℕ) (at : ℕ) (v : List Stored) : Ty
   pub one : Stored
   pub is : v ≡ one ∷ []
   pub stands : storedOf (part (unitAt base at) 16 s) ≡ one
-  pub written : part (unitAt base at) 16 s ≡ storedBytes one
-  pub small : SmallStored one
 
 module _ (base : ℕ) (s : List ℕ) (at end : ℕ) where
   pub one-held : at < end → (v : List Stored) → OwnHolds base s at end v → OneHeld base s at v
@@ -42,7 +39,7 @@ module _ (base : ℕ) (s : List ℕ) (at end : ℕ) where
       go [] c u m q = absurd (omega (arith, c, h))
       go (x ∷ []) c u m q =
           let e : part (unitAt base at) 16 s ≡ storedBytes x = u ∙ append-nil (storedBytes x) in
-          record { one = x; is = refl; stands = rw e (stored-back x (m .0)); written = e; small = m .0 }
+          record { one = x; is = refl; stands = rw e (stored-back x (m .0)) }
       go (x ∷ y ∷ v) c u m q = absurd q
 
   pub none-held : end ≤ at → (v : List Stored) → OwnHolds base s at end v → v ≡ []

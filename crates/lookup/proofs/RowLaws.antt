@@ -1,8 +1,8 @@
 -- A row under a filter: with no levels left it gives nothing, and a level that is no wildcard takes one node of it. Assumes nothing.
 use mathlib.Core.Path.{_≡_, refl, sym, ap, _∙_}
 use mathlib.Core.Bool.{Bool, true, false, not, cond, _&&_}
-use mathlib.Core.List.{List, [], _∷_, _++_}
-use Prim.Native.Nat.{ℕ, _+_}
+use mathlib.Core.List.{List, [], _∷_}
+use Prim.Native.Nat.{ℕ}
 use native.Mathlib.Omega.{arith}
 use Rattle.level.specs.Kinds.{isOnly, same, dollar}
 use Rattle.held.specs.Order.{Level, Filter}

@@ -5,18 +5,17 @@ use mathlib.Core.List.{List, [], _∷_, _++_}
 use Prim.Native.Nat.{ℕ, _+_, _-_, _*_, _/_, _≤_, _<_, min}
 use native.Mathlib.Nat.{zero-add}
 use native.Mathlib.Omega.{arith}
-use lib.Dec.{eqb}
 use lib.ListN.{length, length-append}
 use borrow.Author.Tests.{ne-eqb}
 use Rattle.lent.specs.Parts.{part}
 use Rattle.level.specs.Kinds.{dollar}
-use Rattle.level.specs.Levels.{split, join, width}
+use Rattle.level.specs.Levels.{split, width}
 use Rattle.level.specs.Places.{levelsAt}
-use Rattle.topic.specs.Match.{takes, leadWild}
+use Rattle.topic.specs.Match.{takes}
 use Rattle.held.specs.Order.{Level, Filter}
-use Rattle.held.specs.Retained.{Stored, nameRecord}
-use Rattle.held.specs.Forest.{Forest, leaf, fork, onward}
-use Rattle.held.specs.Stream.{inPage, rowCount, rowBytes}
+use Rattle.held.specs.Retained.{Stored}
+use Rattle.held.specs.Forest.{Forest, onward}
+use Rattle.held.specs.Stream.{inPage, rowCount}
 use Rattle.region.specs.Layout.{levelUnits}
 use Rattle.region.specs.Units.{storedOf}
 use Rattle.forest.specs.declared.Row.{Row}
@@ -26,13 +25,12 @@ use Rattle.lookup.specs.declared.Life.{Life}
 use Rattle.lookup.specs.declared.Life.the-variants.{Over, Left}
 use Rattle.lookup.specs.declared.Query.{Query}
 use Rattle.lookup.specs.declared.Tally.{Tally}
-use Rattle.lookup.specs.declared.Found.{Found}
 use Rattle.lookup.specs.declared.Along.{Along}
 use Rattle.lookup.specs.Lives.{lifeOf}
-use Rattle.lookup.specs.Standing.{storedIn, Looked, Standing, NodeIn, OwnHolds, NodeHas}
-use Rattle.lookup.specs.Spans.{Taken, barredAt, AlongOf}
+use Rattle.lookup.specs.Standing.{storedIn, NodeIn, NodeHas}
+use Rattle.lookup.specs.Spans.{barredAt, AlongOf}
 use Rattle.lookup.specs.Turns.{rowAsked, ownNumber, ownAsked, nodeNumber, nodeAsked, Ready}
-use Rattle.lookup.specs.Sizes.{Told, LiveTold, OwnTold, NodeTold, Passed, RowTo, RowTold, Measured}
+use Rattle.lookup.specs.Sizes.{Told, LiveTold, OwnTold, NodeTold, RowTo, RowTold, Measured}
 use Rattle.lookup.proofs.TurnLaws.{rest-first, rest-hidden, rest-met, rest-end}
 use Rattle.lookup.proofs.OwnLaws.{one-held, none-held, over-is, left-is, length-name, own-empty, own-unasked, own-asked, own-expired, own-counted, own-paged, own-unpaged}
 

@@ -12,17 +12,16 @@ use Rattle.level.specs.Places.{levelsAt}
 use Rattle.level.proofs.Split.{levels-none}
 use Rattle.held.specs.Order.{Level, Filter}
 use Rattle.held.specs.Retained.{Stored}
-use Rattle.held.specs.Forest.{Forest, leaf, fork, Hit, miss, hit, kid}
+use Rattle.held.specs.Forest.{Forest, leaf, fork, hit, kid}
 use Rattle.held.specs.Edit.{Owns, Single}
 use Rattle.held.specs.Stream.{rowCount, rowBytes}
 use Rattle.held.proofs.Orders.{level-order}
 use Rattle.held.proofs.Equations.{kid-here, kid-next}
 use Rattle.region.specs.Layout.{unitsF, unitBytes, marksOf}
 use Rattle.region.specs.Forms.{leaf-fits}
-use Rattle.region.specs.Units.{storedBytes}
-use Rattle.region.proofs.Instances.{records, SmallStored}
+use Rattle.region.proofs.Instances.{records}
 use Rattle.forest.specs.Places.{unitAt}
-use Rattle.forest.specs.Stands.{Stands, rawIn, RawStands}
+use Rattle.forest.specs.Stands.{rawIn, RawStands}
 use Rattle.seek.specs.declared.Child.{Child}
 use Rattle.seek.specs.declared.Child.the-variants.{At as ChildAt, Nothing as NoChild}
 use Rattle.seek.specs.Child.{childOf, Inside}
@@ -30,13 +29,12 @@ use Rattle.seek.proofs.Found.{found-in, missed-in}
 use Rattle.seek.proofs.Raw.{child-stands}
 use Rattle.walk.specs.Height.{heightF}
 use Rattle.walk.specs.Nodes.{Below}
-use Rattle.walk.specs.Steps.{NextLevel}
 use Rattle.walk.proofs.Heights.{height-fork, kid-height}
 use Rattle.lookup.specs.declared.Step.{Step}
 use Rattle.lookup.specs.declared.Span.{Span}
 use Rattle.lookup.specs.Steps.{StepOf}
 use Rattle.lookup.specs.Standing.{Standing}
-use Rattle.lookup.specs.Spans.{Taken, SpanOf, Spanned, barredAt, AlongOf}
+use Rattle.lookup.specs.Spans.{Taken, SpanOf, Spanned, AlongOf}
 use Rattle.lookup.proofs.RowLaws.{only, no-miss, count-only, bytes-only, and-false, count-ended, bytes-ended}
 
 -- a wildcard takes every node

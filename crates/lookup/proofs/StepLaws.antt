@@ -1,17 +1,16 @@
 -- The levels of a filter along a walk, in the words of the code. Assumes nothing.
 use mathlib.Core.Path.{_≡_, refl, sym, ap, _∙_}
 use mathlib.Core.Bool.{Bool, true, false, _&&_, _||_}
-use mathlib.Core.List.{List, [], _∷_}
+use mathlib.Core.List.{List, []}
 use Prim.Native.Nat.{ℕ, _+_, _-_, _≤_, _<_}
 use native.Mathlib.Omega.{arith}
-use lib.Dec.{eqb, leb, ltb}
+use lib.Dec.{eqb, ltb}
 use lib.ListN.{length, take, drop}
-use borrow.Author.Tests.{eq-eqb, ne-eqb, le-leb, lt-leb, lt-ltb, le-ltb}
+use borrow.Author.Tests.{eq-eqb, ne-eqb, le-leb, lt-leb}
 use Rattle.level.specs.Kinds.{isOnly, dollar}
 use Rattle.level.specs.Places.{first, levelsAt}
 use Rattle.level.proofs.Split.{levels-cons, levels-none}
 use Rattle.topic.specs.Match.{takes, leadWild}
-use Rattle.held.specs.Forest.{onward}
 use Rattle.held.specs.Stream.{inPage}
 use Rattle.walk.specs.Steps.{NextLevel}
 use Rattle.lookup.specs.Steps.{StepOf}
@@ -35,7 +34,6 @@ or-false false b e = e
 module _ (filter : List ℕ) (from stop : ℕ) (n : NextLevel filter from stop) {h : Bool} (is : h ≡ isOnly 35 (take (stop - from) (drop from filter))) where
   pub step-hash : h ≡ true → StepOf filter from (record { stop = stop; next = from; wild = true })
   step-hash t =
-      let g = take (stop - from) (drop from filter) in
       let e : isOnly 35 (take (stop - from) (drop from filter)) ≡ true = sym is ∙ t in
       record {
         level = n;
@@ -70,6 +68,3 @@ bars-below left wild h = rw (ne-eqb left 128 h)
 
 pub hides : (b : Bool) (l : List ℕ) {m : List ℕ} {r : Bool} → b ≡ true → m ≡ l → r ≡ dollar m → r ≡ (b && dollar l)
 hides b l e f g = g ∙ ap dollar f ∙ rw e
-
-pub hides-none : (b : Bool) (l : List ℕ) → b ≡ false → false ≡ (b && dollar l)
-hides-none b l e = rw e

@@ -1,28 +1,26 @@
 -- A walk along a row: before the first turn, a node passed, and after the last. Assumes nothing.
 use mathlib.Core.Path.{_≡_, refl, sym, ap, _∙_}
-use mathlib.Core.Bool.{Bool, true, false, not, cond, _&&_}
+use mathlib.Core.Bool.{Bool, true, false, not, _&&_}
 use mathlib.Core.List.{List, [], _∷_, _++_, append-assoc, append-nil}
 use Prim.Native.Nat.{ℕ, _+_, _-_, _*_, _≤_, _<_}
 use native.Mathlib.Omega.{arith}
-use lib.ListN.{length}
 use Rattle.level.specs.Kinds.{dollar}
-use Rattle.level.specs.Places.{levelsAt}
 use Rattle.held.specs.Order.{Level, Filter}
 use Rattle.held.specs.Retained.{Stored}
 use Rattle.held.specs.Forest.{Forest, leaf, fork, fits, onward}
-use Rattle.held.specs.Stream.{rowCount, rowBytes}
+use Rattle.held.specs.Stream.{rowCount}
 use Rattle.held.proofs.Equations.{count-none, count-in, count-out, row-none, row-in, row-out}
-use Rattle.region.specs.Layout.{levelUnits, rowUnits, unitsF}
+use Rattle.region.specs.Layout.{rowUnits, unitsF}
 use Rattle.region.proofs.Instances.{records}
 use Rattle.forest.specs.declared.Row.{Row}
-use Rattle.forest.specs.Places.{unitAt, levelIn, RowAt}
+use Rattle.forest.specs.Places.{levelIn, RowAt}
 use Rattle.forest.proofs.StandsLaws.{fork-units, fits-fork, stands-len, stands-level, stands-end, stands-past, stands-kids, stands-next}
 use Rattle.seek.proofs.Holds.{stands-holds}
 use Rattle.walk.specs.Nodes.{Below}
 use Rattle.walk.proofs.Heights.{height-fork}
 use Rattle.lookup.specs.declared.Query.{Query}
 use Rattle.lookup.specs.declared.Along.{Along}
-use Rattle.lookup.specs.Standing.{Standing, NodeIn, OwnHolds, NodeHas}
+use Rattle.lookup.specs.Standing.{Standing, NodeIn, NodeHas}
 use Rattle.lookup.specs.Spans.{Taken, AlongOf}
 use Rattle.lookup.specs.Turns.{rowAsked, ownNumber, ownAsked, nodeNumber, nodeAsked, Ready, Rest}
 

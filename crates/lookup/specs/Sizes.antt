@@ -1,4 +1,5 @@
--- FOR THE CODE. What the records of a lookup take. Assumes nothing.
+-- FOR THE CODE. What the records of a lookup take. A record takes at most 8388624 bytes, 16 and 65536 for each of 128 levels, and
+-- each stands in a unit of its own: so no sum passes 64 bits. Assumes nothing.
 use mathlib.Core.Path.{_≡_}
 use mathlib.Core.Bool.{Bool}
 use mathlib.Core.List.{List, [], _∷_, _++_}

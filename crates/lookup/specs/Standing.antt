@@ -10,7 +10,7 @@ use Rattle.held.specs.Bytes.{each}
 use Rattle.held.specs.Retained.{Stored}
 use Rattle.held.specs.Forest.{Forest}
 use Rattle.held.specs.Edit.{Owns, Single}
-use Rattle.region.specs.Layout.{levelUnits, rowUnits}
+use Rattle.region.specs.Layout.{levelUnits}
 use Rattle.region.specs.Units.{storedBytes, storedOf}
 use Rattle.region.proofs.Instances.{SmallStored}
 use Rattle.forest.specs.declared.Row.{Row}

@@ -81,7 +81,7 @@ fn own(
 }
 
 // The node at unit i with all below it, where the filter has the levels from `next` on for what is below. The levels of the
-// path to it take `size` bytes.
+// path to it take `size` bytes. No store is deeper than 128 levels; where none is left the walk stops.
 fn visit(
     before: Tally,
     s: &[u8],

@@ -3,3 +3,4 @@ pub mod TextLaws
 pub mod RecordLaws
 pub mod NodeLaws
 pub mod RowLaws
+pub mod Answers

@@ -25,7 +25,7 @@ use Rattle.lookup.specs.Standing.{NodeIn, NodeHas}
 use Rattle.lookup.specs.Turns.{rowAsked, ownNumber, ownAsked, nodeNumber, nodeAsked}
 use Rattle.lookup.proofs.SizeLaws.{not-top}
 use Rattle.pages.specs.declared.Spot.{Spot}
-use Rattle.pages.specs.Paths.{pathAt, PathIn, Trail}
+use Rattle.pages.specs.Paths.{pathAt, Trail}
 use Rattle.pages.specs.Written.{Given, OwnWritten, NodeWritten, RowWritten}
 use Rattle.pages.proofs.PathLaws.{path-set}
 use Rattle.pages.proofs.RecordLaws.{given-both}

@@ -1,16 +1,15 @@
 -- The path of a walk: one row more, and a path whose first rows are the same. Assumes nothing.
 use mathlib.Core.Path.{_≡_, refl, sym, ap, _∙_}
 use mathlib.Core.List.{List, [], _∷_, _++_}
-use Prim.Native.Nat.{ℕ, zero, suc, _+_, _-_, _*_, _≤_, _<_}
+use Prim.Native.Nat.{ℕ, zero, suc, _+_, _-_, _≤_, _<_}
 use native.Mathlib.Numerals.{add-one}
 use native.Mathlib.Omega.{arith}
-use lib.ListN.{length, take, set, getD, length-set}
-use lib.Seq.{take-suc, take-suc-set, take-take, take-set-le, getD-take}
+use lib.ListN.{length, take, set, getD}
+use lib.Seq.{take-suc, take-suc-set, getD-take}
 use Rattle.level.specs.Levels.{width}
-use Rattle.held.specs.Order.{Level, Filter}
-use Rattle.forest.specs.Places.{unitAt, levelIn}
-use Rattle.walk.proofs.Widths.{width-next}
-use Rattle.pages.specs.Paths.{levelsOf, pathAt, PathIn, Trail}
+use Rattle.held.specs.Order.{Filter}
+use Rattle.forest.specs.Places.{levelIn}
+use Rattle.pages.specs.Paths.{levelsOf, pathAt, Trail}
 
 module _ (base : ℕ) (s : List ℕ) (n : ℕ) where
   levels-more : (us : List ℕ) (u : ℕ) → levelsOf base s n (us ++ u ∷ []) ≡ levelsOf base s n us ++ levelIn base s u n ∷ []

@@ -15,21 +15,19 @@ use Rattle.lent.proofs.Anywhere.{read-in, write-in}
 use Rattle.level.specs.Levels.{join, width}
 use Rattle.level.specs.Places.{levelsAt}
 use Rattle.topic.specs.Match.{takes}
-use Rattle.held.specs.Order.{Level, Filter}
+use Rattle.held.specs.Order.{Filter}
 use Rattle.held.specs.Retained.{Stored, left, nameRecord}
 use Rattle.held.specs.Stream.{inPage}
 use Rattle.region.specs.Units.{storedOf}
 use Rattle.forest.specs.Places.{unitAt}
 use Rattle.walk.proofs.Widths.{length-join}
 use Rattle.listing.specs.Trails.{slashed}
-use Rattle.listing.specs.Written.{Wrote}
 use Rattle.listing.proofs.Trails.{length-slashed}
 use Rattle.listing.proofs.RecordLaws.{wrote-none, wrote-then, overwritten}
 use Rattle.lookup.specs.declared.Life.{Life}
 use Rattle.lookup.specs.declared.Life.the-variants.{Over, Left}
 use Rattle.lookup.specs.declared.Query.{Query}
 use Rattle.lookup.specs.Lives.{lifeOf}
-use Rattle.lookup.specs.Standing.{OwnHolds}
 use Rattle.lookup.proofs.OwnLaws.{one-held, none-held, over-is, left-is, length-name, own-empty, own-unasked, own-asked, own-expired, own-counted, own-paged, own-unpaged}
 use Rattle.pages.specs.declared.Spot.{Spot}
 use Rattle.pages.specs.Written.{RecordWritten, Given, LiveWritten, OwnWritten}

@@ -2,16 +2,15 @@
 use mathlib.Core.Path.{_≡_, refl, sym, ap, _∙_}
 use mathlib.Core.Bool.{Bool, true, false, _&&_}
 use mathlib.Core.List.{List, [], _∷_, _++_}
-use Prim.Native.Nat.{ℕ, _+_, _-_, _*_, _≤_, _<_}
+use Prim.Native.Nat.{ℕ, _+_, _-_, _≤_, _<_}
 use native.Mathlib.Omega.{arith}
-use lib.ListN.{length, take, replicate, length-replicate}
+use lib.ListN.{length, replicate, length-replicate}
 use Rattle.lent.specs.Parts.{patch}
 use Rattle.level.specs.Kinds.{dollar}
 use Rattle.level.specs.Levels.{split}
 use Rattle.level.specs.Places.{levelsAt}
 use Rattle.topic.specs.Match.{leadWild}
 use Rattle.held.specs.Order.{Filter}
-use Rattle.held.specs.Retained.{Stored}
 use Rattle.held.specs.Forest.{onward}
 use Rattle.held.specs.Stream.{rowBytes}
 use Rattle.forest.specs.declared.Row.{Row}
@@ -25,7 +24,7 @@ use Rattle.lookup.specs.Turns.{nodeAsked, Ready}
 use Rattle.lookup.proofs.TurnLaws.{rest-first, rest-hidden, rest-met, rest-end}
 use Rattle.pages.specs.declared.Spot.{Spot}
 use Rattle.pages.specs.Paths.{levelsOf, pathAt, Trail}
-use Rattle.pages.specs.Written.{Given, NodeWritten, Passed, RowTo, RowWritten}
+use Rattle.pages.specs.Written.{NodeWritten, RowTo, RowWritten}
 
 -- the turns
 pub row-begin : (q : Query) (b : Bool) (base : ℕ) (s : List ℕ) (n left lo hi : ℕ) (filter : List ℕ) (from : ℕ) (path old : List ℕ) (a : Spot) (walk : Along) → a .at ≤ length old → a .number ≤ lo

@@ -12,7 +12,7 @@ use Rattle.lent.proofs.Turns.{patch-none}
 use Rattle.lent.proofs.Digits.{length-bytes}
 use Rattle.lent.proofs.Anywhere.{write-in, write-framed}
 use Rattle.level.specs.Levels.{width}
-use Rattle.held.specs.Order.{Level, Filter}
+use Rattle.held.specs.Order.{Filter}
 use Rattle.forest.specs.Places.{levelIn}
 use Rattle.walk.proofs.Widths.{width-next}
 use Rattle.listing.specs.Trails.{slashed}
@@ -49,9 +49,6 @@ module _ (base : ℕ) (s : List ℕ) (n : ℕ) (path : List ℕ) (depth at : ℕ
   text-in h = z .path-in .rows j h
 
   module _ (more : j < depth) {l : List ℕ} (is : l ≡ levelIn base s (getD path j 0) n) where
-    p : Filter
-    p = pathAt base s n path j
-
     next-path : pathAt base s n path (j + 1) ≡ pathAt base s n path j ++ l ∷ []
     next-path = rw is (path-next base s n path j (omega (arith, z .path-in .deep, z .path-in .long, more)))
 

@@ -25,7 +25,7 @@ fn smaller(a: usize, b: usize) -> usize
 }
 
 // The node at unit i with all below it, where the filter has the levels from `next` on for what is below. The levels of the
-// path to it take `size` bytes.
+// path to it take `size` bytes. Where no level is left of 128 the walk stops.
 fn visit(
     spot: Spot,
     out: &mut [u8],

@@ -1,5 +1,5 @@
 -- `lookup::spans::is_hidden` meets its contract. Assumes nothing.
-use Rattle.lookup.proofs.StepLaws.{hides, hides-none}
+use Rattle.lookup.proofs.StepLaws.{hides}
 use borrow.Author.Needs.{needs}
 use Rattle.lookup.proofs.spans.is_hidden.Statement.{statement}
 use Rattle.lookup.proofs.spans.is_hidden.Tie as tie
