@@ -49,3 +49,12 @@ module _ {C H : Type 0} (k : StoreKind C H) where
   pub run-holds : {cs : List C} {s t : List ℕ} → k .Store s → Runs k cs s t → RunHolds k cs s t
   run-holds st ended = record { store = st; holds = refl; roomy = refl }
   run-holds st (called {c = c} {cs = cs} {s = s} {t = t} {u = u} {r = r} a q rest) = let b = a .on-store st in on c cs s t u r b q (run-holds (b .store) rest)
+
+-- a store that holds nothing, as it is opened; and what a run makes of it
+pub record Empty {C X : Type 0} (k : StoreKind C (List X)) (s : List ℕ) : Type 0 where
+  pub store : k .Store s
+  pub nothing : k .heldIn s ≡ []
+
+pub from-empty : {C X : Type 0} (k : StoreKind C (List X)) {cs : List C} {s t : List ℕ} → Empty k s → Runs k cs s t
+    → (hasRoom (k .effect) (roomAt s) cs [] ≡ true) × (k .heldIn t ≡ run (k .effect) (roomAt s) cs []) × k .Store t
+from-empty k a x = let r = run-holds k (a .store) x in (rw (a .nothing) at (r .roomy), rw (a .nothing) at (r .holds), r .store)

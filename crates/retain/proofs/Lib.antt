@@ -7,3 +7,4 @@ pub mod EraseLaws
 pub mod KnownLaws
 pub mod NamesCounted
 pub mod LookLaws
+pub mod Demand

@@ -4,58 +4,47 @@
 use mathlib.Core.Path.{_≡_, refl, sym, ap, _∙_}
 use Prim.Native.Nat.{ℕ, _≤_}
 use mathlib.Core.Bool.{true}
-use mathlib.Core.List.{List, []}
+use mathlib.Core.List.{List}
 use lib.ListN.{length}
 use Rattle.lent.specs.Parts.{patch}
 use Rattle.level.specs.Levels.{join}
 use Rattle.topic.specs.Rules.{filterRules}
 use Rattle.topic.specs.Answers.{checked}
 use Rattle.held.specs.Room.{Room, inRange}
-use Rattle.held.specs.History.{run, hasRoom, accepted}
-use Rattle.held.specs.Subscriptions.{Pair, Call, subscriptions, callsOf}
+use Rattle.held.specs.History.{accepted}
+use Rattle.held.specs.Subscriptions.{Pair, Call, callsOf}
 use Rattle.held.specs.Forest.{held}
 use Rattle.held.proofs.Histories.{same-held}
 use Rattle.region.specs.Layout.{neededBytes, headerBytes}
 use Rattle.region.specs.Opening.{nothing}
 use Rattle.region.specs.Units.{valueOf}
-use Rattle.region.specs.Store.{roomAt, SubscriptionStore}
+use Rattle.region.specs.Store.{roomAt}
 use Rattle.region.proofs.Stores.{opened-forest, opened-subscriptions}
 use Rattle.edit.specs.Runs.{Runs}
-use Rattle.edit.proofs.RunLaws.{RunHolds, run-holds}
+use Rattle.edit.proofs.RunLaws.{Empty, from-empty}
 use Rattle.edit.specs.declared.Listed.{Listed}
 use Rattle.trie.specs.Calls.{heldIn, subscriptionStore}
 use Rattle.trie.specs.Listings.{Lists}
 
--- a store that holds nothing, as it is opened
-pub record Empty (s : List ℕ) : Type 0 where
-  pub store : SubscriptionStore s
-  pub none : heldIn s ≡ []
-
-module _ {cs ds : List Call} {s t u v : List ℕ} (a : Empty s) (b : Empty u) (x : Runs subscriptionStore cs s t) (y : Runs subscriptionStore ds u v)
+module _ {cs ds : List Call} {s t u v : List ℕ} (a : Empty subscriptionStore s) (b : Empty subscriptionStore u) (x : Runs subscriptionStore cs s t) (y : Runs subscriptionStore ds u v)
     (same : (p : Pair) → accepted (checked (filterRules (join (p .0)))) ≡ true → callsOf p cs ≡ callsOf p ds) where
-  one : RunHolds subscriptionStore cs s t
-  one = run-holds subscriptionStore (a .store) x
-
-  other : RunHolds subscriptionStore ds u v
-  other = run-holds subscriptionStore (b .store) y
-
   -- the same pairs are held
   pub runs-hold : heldIn t ≡ heldIn v
   runs-hold =
-      let r : hasRoom subscriptions (roomAt s) cs [] ≡ true = rw (a .none) at (one .roomy) in
-      let q : hasRoom subscriptions (roomAt u) ds [] ≡ true = rw (b .none) at (other .roomy) in
-      let f : heldIn t ≡ run subscriptions (roomAt s) cs [] = rw (a .none) at (one .holds) in
-      let g : heldIn v ≡ run subscriptions (roomAt u) ds [] = rw (b .none) at (other .holds) in
-      f ∙ same-held (roomAt s) (roomAt u) cs ds r q same ∙ sym g
+      let f = from-empty subscriptionStore a x in
+      let g = from-empty subscriptionStore b y in
+      f .1 ∙ same-held (roomAt s) (roomAt u) cs ds (f .0) (g .0) same ∙ sym (g .1)
 
   -- and a listing answers and writes the same, into buffers that were the same
   pub runs-list : (name before : List ℕ) {after after' : List ℕ} {r q : Listed} → Lists t name before after r → Lists v name before after' q → (r ≡ q) × (after ≡ after')
   runs-list name before k l =
-      let m = rw runs-hold at (k .on-store .told (one .store)) in
-      let n = rw runs-hold at (k .on-store .given (one .store)) in
-      (m ∙ sym (l .on-store .told (other .store)), n ∙ sym (l .on-store .given (other .store)))
+      let i = from-empty subscriptionStore a x .2 in
+      let j = from-empty subscriptionStore b y .2 in
+      let m = rw runs-hold at (k .on-store .told i) in
+      let n = rw runs-hold at (k .on-store .given i) in
+      (m ∙ sym (l .on-store .told j), n ∙ sym (l .on-store .given j))
 
 -- a region that is opened is such a store
-pub opened-empty : (r : Room) (s : List ℕ) → inRange r ≡ true → neededBytes r ≤ length s → Empty (patch 0 (headerBytes 1 r nothing) s)
+pub opened-empty : (r : Room) (s : List ℕ) → inRange r ≡ true → neededBytes r ≤ length s → Empty subscriptionStore (patch 0 (headerBytes 1 r nothing) s)
 unfolding held
-opened-empty r s i l = record { store = opened-subscriptions r s i l; none = ap held (opened-forest 1 r s i l valueOf) }
+opened-empty r s i l = record { store = opened-subscriptions r s i l; nothing = ap held (opened-forest 1 r s i l valueOf) }
