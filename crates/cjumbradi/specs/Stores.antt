@@ -2,14 +2,12 @@
 -- a value. Assumes nothing.
 use mathlib.Core.Path.{_≡_}
 use Prim.Native.Nat.{ℕ}
-use mathlib.Core.List.{List}
 use Rattle.refusal.specs.Refusals.{Told, _at_, told}
 use Rattle.held.specs.History.{Outcome, answered, refused}
 use Rattle.edit.specs.declared.Changed.{Changed}
 use Rattle.edit.specs.declared.Changed.the-variants.{Done, Refused}
 use Rattle.trie.specs.declared.Listed.{Listed}
 use Rattle.trie.specs.declared.Listed.the-variants.{Given, Refused as NotGiven}
-use Rattle.trie.specs.Listings.{Lists}
 
 abbrev pub ofChanged : Changed → Told
 ofChanged (Done n) = 0 at n
@@ -34,8 +32,8 @@ abbrev pub recordsOf : Listed → ℕ
 recordsOf (Given bytes records) = records
 recordsOf (NotGiven r) = 0
 
-pub record TellsListing (s name before after : List ℕ) (t : Told) (records : ℕ) : Type 0 where
+pub record TellsListing (Promised : Listed → Type 0) (t : Told) (records : ℕ) : Type 0 where
   pub answer : Listed
-  pub promised : Lists s name before after answer
+  pub promised : Promised answer
   pub said : t ≡ ofListed answer
   pub counted : records ≡ recordsOf answer

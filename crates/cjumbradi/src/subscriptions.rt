@@ -5,7 +5,7 @@ ghost use Rattle.held.specs.Room.{nodeCount};
 ghost use Rattle.held.specs.Subscriptions.{insert, remove};
 ghost use Rattle.edit.specs.Calls.{Calls};
 ghost use Rattle.trie.specs.Calls.{heldIn, subscriptionStore};
-ghost use Rattle.trie.specs.Listings.{Asks};
+ghost use Rattle.trie.specs.Listings.{Asks, Lists};
 ghost use Rattle.trie.specs.Sizes.{Counts};
 ghost use Rattle.cjumbradi.specs.Calls.{ofMatched};
 ghost use Rattle.cjumbradi.specs.Stores.{ofChanged, ofOutcome, Tells, TellsListing};
@@ -54,7 +54,7 @@ pub extern "C" fn cjumbradi_listing(
     bytes: &mut u64,
     records: &mut u64,
 ) -> u64
-    ensures { λ n. ⌜ TellsListing (now (region .entry)) (now (name .entry)) (now (out .entry)) (now (out .exit)) (n at now (bytes .exit)) (now (records .exit)) ⌝ }
+    ensures { λ n. ⌜ TellsListing (Lists (now (region .entry)) (now (name .entry)) (now (out .entry)) (now (out .exit))) (n at now (bytes .exit)) (now (records .exit)) ⌝ }
 {
     tell_listed(trie::matches(region, name, out), bytes, records)
 }
