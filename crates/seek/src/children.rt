@@ -9,8 +9,14 @@ ghost use Rattle.seek.specs.Probe.{Probed};
 use crate::Child;
 use crate::Probe;
 use forest::Order;
+use forest::Row;
 
-// From the unit mid back to the sibling that holds it; where that is far, the row's first, with eight to pass.
+// How many siblings a search passes before it halves the row, and how many are left of them behind the first.
+const PASSED: usize = 8;
+
+const BEHIND: usize = 7;
+
+// From the unit mid back to the sibling that holds it; where that is far, the row's first, and some more are passed.
 fn step_back(s: &[u8], a: usize, mid: usize, b: usize, d: usize) -> Probe
     requires { ⌜ (a ≤ mid) × (mid < b) × (64 + b ≤ length (now s)) ⌝ }
     ensures { λ r. ⌜ Probed (now (s .entry)) d a b r ⌝ }
@@ -29,7 +35,7 @@ fn step_back(s: &[u8], a: usize, mid: usize, b: usize, d: usize) -> Probe
             return Probe {
                 node: a,
                 mid: a,
-                few: 8,
+                few: BEHIND,
             };
         }
         left -= 1;
@@ -63,6 +69,24 @@ fn larger(a: usize, b: usize) -> usize
     if a < b { b } else { a }
 }
 
+// How many siblings are still passed after the one at unit m: none where it is the first of a row that seems to have many more of
+// its size. A level of one byte may be a wildcard, which says nothing of the others.
+fn still_passed(few: usize, r: Row, m: usize, b: usize) -> usize
+    requires { ⌜ (m ≤ r .past) × (r .past ≤ b) ⌝ }
+{
+    if few != BEHIND {
+        return few;
+    }
+    if r.len < 2 {
+        return few;
+    }
+    if r.past - m < (b - r.past) / 16 {
+        0
+    } else {
+        few
+    }
+}
+
 // The child with a level, in the row at depth d whose units go from lo up to hi.
 pub fn find_child(s: &[u8], base: usize, lo: usize, hi: usize, d: usize, level: &[u8]) -> Child
     requires { ⌜ (unitAt base hi ≤ length (now s)) × (64 + hi ≤ base) × (d < 255) ⌝ }
@@ -70,7 +94,7 @@ pub fn find_child(s: &[u8], base: usize, lo: usize, hi: usize, d: usize, level: 
 {
     let mut a = lo;
     let mut b = hi;
-    let mut few: usize = 8;
+    let mut few: usize = PASSED;
     while a < b {
         let p = probe(s, a, b, d, few);
         let m = p.node;
@@ -81,6 +105,7 @@ pub fn find_child(s: &[u8], base: usize, lo: usize, hi: usize, d: usize, level: 
         match o {
             Order::Less => {
                 a = larger(r.past, mid + 1);
+                few = still_passed(few, r, m, b);
             }
             Order::Equal => {
                 return Child::At {

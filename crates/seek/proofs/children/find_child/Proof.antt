@@ -35,17 +35,20 @@ add-larger c = search needs
 larger-requires : tie.Need-larger-requires Inv-loop μ-loop
 larger-requires c κs = search needs
 
+still-passed-requires : tie.Need-still-passed-requires Inv-loop μ-loop
+still-passed-requires c κs = search needs
+
 loop-less : tie.Need-loop-less Inv-loop μ-loop
 loop-less c = search needs
 
 loop-again : tie.Need-loop-again Inv-loop μ-loop
 loop-again c =
-    let e = c .before .before .before in (
+    let e = c .before .before .before .before in (
       search needs,
       search needs,
       search needs,
       narrow-less _ _ _ _ _ _ _ _ (e .before .before .before .probe .result) (e .before .before .row-at .result) _ _ (e .before .before .before .before .before .loop .inv .3)
-          (e .before .before .before .probe .ensures) (e .before .before .row-at .ensures) (e .before .level-at .ensures) (e .compare .ensures) _ (c .larger .ensures) (search needs),
+          (e .before .before .before .probe .ensures) (e .before .before .row-at .ensures) (e .before .level-at .ensures) (e .compare .ensures) _ (c .before .larger .ensures) (search needs),
     )
 
 enum-told-2 : tie.Need-enum-told-2 Inv-loop μ-loop
@@ -80,6 +83,7 @@ find-child-spec =
     enum-told
     add-larger
     larger-requires
+    still-passed-requires
     loop-less
     loop-again
     enum-told-2
