@@ -100,14 +100,15 @@ pub fn find_child(s: &[u8], base: usize, lo: usize, hi: usize, d: usize, level: 
         let m = p.node;
         let mid = p.mid;
         few = p.few;
-        let r = forest::row_at(s, base, m, b);
         let o = forest::compare(forest::level_at(s, base, m, b), level);
         match o {
             Order::Less => {
+                let r = forest::row_at(s, base, m, b);
                 a = larger(r.past, mid + 1);
                 few = still_passed(few, r, m, b);
             }
             Order::Equal => {
+                let r = forest::row_at(s, base, m, b);
                 return Child::At {
                     node: m,
                     end: r.end,
