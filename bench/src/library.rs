@@ -155,7 +155,14 @@ impl Library {
         // outlives the call.
         let number = unsafe {
             let (start, len) = (region.as_mut_ptr(), region.len());
-            call(start, len, filter.as_ptr(), filter.len(), value, &mut answer)
+            call(
+                start,
+                len,
+                filter.as_ptr(),
+                filter.len(),
+                value,
+                &mut answer,
+            )
         };
         accepted(number, answer) == 1
     }
@@ -215,7 +222,10 @@ impl Library {
     pub fn records(&mut self, calls: Calls, name: &str) -> Vec<Record> {
         let mut records = Vec::new();
         each_record(self.list(calls, name), |filter, values| {
-            records.push((filter.to_vec(), values.chunks_exact(4).map(number).collect()));
+            records.push((
+                filter.to_vec(),
+                values.chunks_exact(4).map(number).collect(),
+            ));
         });
         records
     }

@@ -14,11 +14,16 @@ use crate::workloads::Workload;
 /// A test of a region takes so much longer than a question that a few of the names will do.
 const TESTED_NAMES: usize = 40;
 
-/// Changes are measured with at most so many pairs.
-const CHANGED: usize = 1_000;
-
 /// So many of the pairs of a full store are taken away and put back.
 const RENEWED: usize = 200;
+
+/// How much is measured: the rounds, the names that are asked, and how many pairs at most are
+/// inserted and removed.
+pub struct Effort {
+    pub rounds: usize,
+    pub names: usize,
+    pub changed: usize,
+}
 
 /// Times in ns for each call.
 pub struct Asked {
@@ -50,16 +55,24 @@ pub struct Measured {
     pub test: f64,
 }
 
-pub fn measured(rounds: usize, workload: &Workload, library: &mut Library, rust: &Rust) -> Measured {
+pub fn measured(
+    effort: &Effort,
+    workload: &Workload,
+    library: &mut Library,
+    rust: &Rust,
+) -> Measured {
+    let rounds = effort.rounds;
     let topics: Vec<Topic> = workload.names.iter().map(|name| parsed(name)).collect();
     let mut read = Read::default();
-    topics.iter().for_each(|topic| read.add(rust.listing_parsed(topic)));
+    topics
+        .iter()
+        .for_each(|topic| read.add(rust.listing_parsed(topic)));
     Measured {
         nodes: library.nodes_size(),
         values: read.count() as f64 / topics.len() as f64,
         listing: listing(rounds, workload, &topics, library, rust),
         is_match: is_match(rounds, workload, &topics, library, rust),
-        changed: changed(rounds, workload, library),
+        changed: changed(effort, workload, library),
         test: tested(rounds, library),
     }
 }
@@ -202,15 +215,15 @@ fn rust_removes(pairs: &[(String, u32)]) -> Timed<'_> {
     })
 }
 
-fn changed(rounds: usize, workload: &Workload, library: &Library) -> Changed {
+fn changed(effort: &Effort, workload: &Workload, library: &Library) -> Changed {
     let all = &workload.pairs;
-    let pairs = &all[..all.len().min(CHANGED)];
+    let pairs = &all[..all.len().min(effort.changed)];
     let few = &all[..RENEWED];
     let mut full = Library::new();
     full.become_as(library);
     let mut rust_full = rust_filled(all);
     let times = medians(
-        rounds,
+        effort.rounds,
         &mut [
             inserts(KNOWN, pairs),
             removes(KNOWN, pairs),

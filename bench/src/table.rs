@@ -27,7 +27,9 @@ pub fn machine() -> String {
 pub fn hasher() -> &'static str {
     match env::var("BENCH_HASHER").as_deref() {
         Ok("real") => "the Rust has the hasher that it names, ahash",
-        _ => "NOT THE RUST'S HASHER: that of the standard library stands in for ahash, and is slower",
+        _ => {
+            "NOT THE RUST'S HASHER: that of the standard library stands in for ahash, and is slower"
+        }
     }
 }
 
@@ -40,13 +42,16 @@ pub fn print(rows: &[Row]) {
 }
 
 fn line(name: &str, cells: &[String]) {
-    let cells: Vec<String> = cells.iter().map(|cell| format!("{cell:>12}")).collect();
+    let cells: Vec<String> = cells.iter().map(|cell| format!("{cell:>13}")).collect();
     println!("{name:<27}{}", cells.concat());
 }
 
 fn head(name: &str, cells: &[&str]) {
     println!();
-    line(name, &cells.iter().map(ToString::to_string).collect::<Vec<_>>());
+    line(
+        name,
+        &cells.iter().map(ToString::to_string).collect::<Vec<_>>(),
+    );
 }
 
 fn ns(time: f64) -> String {
@@ -58,7 +63,10 @@ fn ratio(ours: f64, rust: f64) -> String {
 }
 
 fn held(rows: &[Row]) {
-    head("what is held", &["pairs", "nodes", "values/name", "test ns/node"]);
+    head(
+        "what is held",
+        &["pairs", "nodes", "values/name", "test ns/node"],
+    );
     for (workload, measured) in rows {
         line(
             workload.name,
@@ -76,7 +84,15 @@ fn held(rows: &[Row]) {
 fn asked(call: &str, rows: &[Row], of: fn(&Measured) -> &Asked) {
     head(
         call,
-        &["known ns", "Rust ns", "ratio", "parsed ns", "ratio", "tested ns", "ratio"],
+        &[
+            "known ns",
+            "Rust ns",
+            "ratio",
+            "parsed ns",
+            "ratio",
+            "tested ns",
+            "ratio",
+        ],
     );
     for (workload, measured) in rows {
         let asked = of(measured);
@@ -98,7 +114,18 @@ fn asked(call: &str, rows: &[Row], of: fn(&Measured) -> &Asked) {
 fn changed(rows: &[Row]) {
     head(
         "insert + remove",
-        &["insert ns", "Rust ns", "remove ns", "Rust ns", "ratio", "tested ns", "ratio", "full ns", "Rust ns", "ratio"],
+        &[
+            "insert ns",
+            "Rust ns",
+            "remove ns",
+            "Rust ns",
+            "ratio",
+            "tested ns",
+            "ratio",
+            "full ns",
+            "Rust ns",
+            "ratio",
+        ],
     );
     for (workload, measured) in rows {
         let c = &measured.changed;
@@ -137,14 +164,22 @@ fn budget(what: &str, rows: &[Row], is_met: impl Fn(&Measured) -> bool) {
 
 fn budgets(rows: &[Row]) {
     println!();
-    budget(&format!("listing, known store, at most {LISTING} of the Rust"), rows, |m| {
-        m.listing.known <= LISTING * m.listing.rust
-    });
-    budget(&format!("insert + remove, known store, at most {CHANGE} of the Rust"), rows, |m| {
-        let c = &m.changed;
-        c.insert + c.remove <= CHANGE * (c.rust_insert + c.rust_remove)
-    });
-    budget(&format!("the test of a region, at most {TEST} ns for each node"), rows, |m| {
-        m.test <= TEST
-    });
+    budget(
+        &format!("listing, known store, at most {LISTING} of the Rust"),
+        rows,
+        |m| m.listing.known <= LISTING * m.listing.rust,
+    );
+    budget(
+        &format!("insert + remove, known store, at most {CHANGE} of the Rust"),
+        rows,
+        |m| {
+            let c = &m.changed;
+            c.insert + c.remove <= CHANGE * (c.rust_insert + c.rust_remove)
+        },
+    );
+    budget(
+        &format!("the test of a region, at most {TEST} ns for each node"),
+        rows,
+        |m| m.test <= TEST,
+    );
 }

@@ -11,22 +11,20 @@ pub struct Workload {
     pub names: Vec<String>,
 }
 
-/// How many names are asked.
-const NAMES: usize = 2_000;
-
 /// How many filters a workload holds where nothing else says it.
 const FILTERS: usize = 1_000;
 
-pub fn all() -> Vec<Workload> {
+/// The workloads, with so many names for each.
+pub fn all(names: usize) -> Vec<Workload> {
     vec![
-        studio(),
-        siblings("1,000 siblings", "booth", 1_000),
-        siblings("4,000 siblings", "booth", 4_000),
-        siblings("4,000 siblings from '!' on", "!booth", 4_000),
-        booths(),
-        deep(),
-        wildcards(),
-        random_names(),
+        studio(names),
+        siblings("1,000 siblings", "booth", 1_000, names),
+        siblings("4,000 siblings", "booth", 4_000, names),
+        siblings("4,000 siblings from '!' on", "!booth", 4_000, names),
+        booths(names),
+        deep(names),
+        wildcards(names),
+        random_names(names),
     ]
 }
 
@@ -44,7 +42,10 @@ fn shuffled(
 
 /// One value for each filter.
 fn numbered(filters: impl IntoIterator<Item = String>) -> Vec<(String, u32)> {
-    (0..).zip(filters).map(|(value, filter)| (filter, value)).collect()
+    (0..)
+        .zip(filters)
+        .map(|(value, filter)| (filter, value))
+        .collect()
 }
 
 const KINDS: [&str; 5] = ["cue", "mute", "talk", "level", "take"];
@@ -60,7 +61,7 @@ fn in_studio(random: &mut Random) -> [String; 4] {
 
 /// A studio building. Of ten filters seven are exact, two have a '+' for the room or the booth, and
 /// one ends in '#' behind its floor or room. A filter has a value or two.
-fn studio() -> Workload {
+fn studio(names: usize) -> Workload {
     let mut random = Random(1);
     let mut pairs = BTreeSet::new();
     while pairs.len() < FILTERS {
@@ -75,33 +76,40 @@ fn studio() -> Workload {
         }
         pairs.insert((levels.join("/"), random.below(300) as u32));
     }
-    let names = (0..NAMES).map(|_| in_studio(&mut random).join("/")).collect();
-    shuffled("studio building", random, pairs.into_iter().collect(), names)
+    let names = (0..names)
+        .map(|_| in_studio(&mut random).join("/"))
+        .collect();
+    shuffled(
+        "studio building",
+        random,
+        pairs.into_iter().collect(),
+        names,
+    )
 }
 
 /// One row of siblings. Of ten names nine are held.
-fn siblings(name: &'static str, word: &str, count: usize) -> Workload {
+fn siblings(name: &'static str, word: &str, count: usize, names: usize) -> Workload {
     let mut random = Random(2);
     let pairs = numbered((0..count).map(|i| format!("{word}{i}")));
     let asked = |random: &mut Random| format!("{word}{}", random.below(count * 10 / 9));
-    let names = (0..NAMES).map(|_| asked(&mut random)).collect();
+    let names = (0..names).map(|_| asked(&mut random)).collect();
     shuffled(name, random, pairs, names)
 }
 
 /// 400 booths, each with mute, cue and talk.
-fn booths() -> Workload {
+fn booths(names: usize) -> Workload {
     let mut random = Random(3);
     let kinds = ["mute", "cue", "talk"];
     let of_booth = |i: usize| kinds.map(|kind| format!("booth{i}/{kind}"));
     let pairs = numbered((0..400).flat_map(of_booth));
     let asked = |random: &mut Random| of_booth(random.below(440))[random.below(3)].clone();
-    let names = (0..NAMES).map(|_| asked(&mut random)).collect();
+    let names = (0..names).map(|_| asked(&mut random)).collect();
     shuffled("400 booths, 3 kinds", random, pairs, names)
 }
 
 /// 20 to 60 levels: one line of levels, which in a third of the filters has a '+' early and in a
 /// third a '+' late, and filters that leave it at some depth with a level of their own, or with '#'.
-fn deep() -> Workload {
+fn deep(names: usize) -> Workload {
     let mut random = Random(4);
     let line = |depth: usize| -> Vec<String> { (0..depth).map(|i| format!("level{i}")).collect() };
     let mut filters = BTreeSet::new();
@@ -123,12 +131,12 @@ fn deep() -> Workload {
         levels.push(format!("end{}", random.below(12)));
         levels.join("/")
     };
-    let names = (0..NAMES).map(|_| asked(&mut random)).collect();
+    let names = (0..names).map(|_| asked(&mut random)).collect();
     shuffled("20 to 60 levels", random, numbered(filters), names)
 }
 
 /// Five levels, each '+' or one of four words: at nearly every node the walk goes two ways.
-fn wildcards() -> Workload {
+fn wildcards(names: usize) -> Workload {
     let mut random = Random(5);
     let words = ["red", "green", "blue", "amber"];
     let mut filters = BTreeSet::new();
@@ -141,13 +149,13 @@ fn wildcards() -> Workload {
         filters.insert(levels.join("/"));
     }
     let asked = |random: &mut Random| [0; 5].map(|_| words[random.below(4)]).join("/");
-    let names = (0..NAMES).map(|_| asked(&mut random)).collect();
+    let names = (0..names).map(|_| asked(&mut random)).collect();
     shuffled("wildcard-heavy", random, numbered(filters), names)
 }
 
 /// One to five levels of one to twelve random letters. Some levels of a filter become '+', some
 /// ends '#'. Half of the names are those of which the filters were made.
-fn random_names() -> Workload {
+fn random_names(names: usize) -> Workload {
     let mut random = Random(6);
     let mut made = Vec::new();
     let mut filters = BTreeSet::new();
@@ -170,7 +178,7 @@ fn random_names() -> Workload {
         0 => made[random.below(made.len())].clone(),
         _ => random_levels(random).join("/"),
     };
-    let names = (0..NAMES).map(|_| asked(&mut random)).collect();
+    let names = (0..names).map(|_| asked(&mut random)).collect();
     shuffled("random names", random, numbered(filters), names)
 }
 
