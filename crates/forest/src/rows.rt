@@ -5,7 +5,7 @@ ghost use lib.ListN.{length};
 ghost use Rattle.forest.specs.Places.{unitAt, levelIn, RowAt};
 use crate::Row;
 
-fn smaller(a: usize, b: usize) -> usize
+pub fn smaller(a: usize, b: usize) -> usize
     ensures { λ r. ⌜ r ≡ min a b ⌝ }
 {
     if b < a { b } else { a }

@@ -108,11 +108,11 @@ pub fn find_child(s: &[u8], base: usize, lo: usize, hi: usize, d: usize, level: 
                 few = still_passed(few, r, m, b);
             }
             Order::Equal => {
-                let r = forest::row_at(s, base, m, b);
+                let row = forest::row_at(s, base, m, b);
                 return Child::At {
                     node: m,
-                    end: r.end,
-                    past: r.past,
+                    end: row.end,
+                    past: row.past,
                 };
             }
             Order::Greater => {
