@@ -10,6 +10,7 @@ use borrow.Author.Tests.{lt-ltb, le-ltb}
 use Rattle.refusal.specs.declared.Refusal.{Refusal}
 use Rattle.refusal.specs.declared.Refusal.the-variants.{NotAStore, ShortRoom}
 use Rattle.lent.specs.Parts.{patch}
+use Rattle.lent.proofs.Turns.{patch-none}
 use Rattle.level.specs.Levels.{split}
 use Rattle.level.proofs.Join.{join-split}
 use Rattle.topic.specs.Rules.{filterRules, nameRules}
@@ -89,6 +90,10 @@ module _ (s name : List ℕ) where
     ask-no f z = record { told = λ (st : SubscriptionStore s). answered (isMatch (split name) (heldIn s)) No fine (ap answerOf (sym z ∙ hit-is st f)) }
 
 -- the listing
+patch-empty : (v s : List ℕ) → length v ≡ 0 → patch 0 v s ≡ s
+patch-empty [] s h = patch-none 0 s
+patch-empty (x ∷ v) s h = absurd (omega (arith, h))
+
 module _ (s name : List ℕ) where
   pub list-none : (out : List ℕ) {r : Shape} → ShapeOf s r → r ≡ Not → ListsKnown s name out out (Refused NotAStore)
   list-none out h e =
@@ -130,6 +135,14 @@ module _ (s name : List ℕ) where
         record {
           told = λ (st : SubscriptionStore s). rw (short-rules st out h);
           given = λ (st : SubscriptionStore s). rw (short-rules st out h);
+        }
+
+    pub list-empty : (out : List ℕ) → m .bytes ≡ 0 → ListsKnown s name out out (Given (m .bytes) (m .records))
+    list-empty out h =
+        let room : m .bytes ≤ length out = omega (arith, h) in
+        record {
+          told = λ (st : SubscriptionStore s). rw (room-rules st out room, bytes-is st, records-is st);
+          given = λ (st : SubscriptionStore s). rw (room-rules st out room) (sym (patch-empty (listingBytes (split name) (heldIn s)) out (sym (bytes-is st) ∙ h)));
         }
 
     pub list-given : (out after : List ℕ) → m .bytes ≤ length out
