@@ -16,13 +16,14 @@ const PASSED: usize = 8;
 
 const BEHIND: usize = 7;
 
-// From the unit mid back to the sibling that holds it; where that is far, the row's first, and some more are passed.
-fn step_back(s: &[u8], a: usize, mid: usize, b: usize, d: usize) -> Probe
+// From the unit mid back to the sibling that holds it, in so many steps; where it is farther, the row's first, and some more are
+// passed.
+fn step_back(s: &[u8], a: usize, mid: usize, b: usize, d: usize, steps: usize) -> Probe
     requires { ⌜ (a ≤ mid) × (mid < b) × (64 + b ≤ length (now s)) ⌝ }
     ensures { λ r. ⌜ Probed (now (s .entry)) d a b r ⌝ }
 {
     let mut m = mid;
-    let mut left: usize = 64;
+    let mut left = steps;
     while a < m {
         if s[64 + m] as usize <= d {
             return Probe {
@@ -60,7 +61,7 @@ fn probe(s: &[u8], a: usize, b: usize, d: usize, few: usize) -> Probe
             few: few - 1,
         };
     }
-    step_back(s, a, a + (b - a) / 2, b, d)
+    step_back(s, a, a + (b - a) / 2, b, d, 64)
 }
 
 fn larger(a: usize, b: usize) -> usize
@@ -70,9 +71,9 @@ fn larger(a: usize, b: usize) -> usize
 }
 
 // How many siblings are still passed after the one at unit m: none where it is the first of a row that seems to have many more of
-// its size. A level of one byte may be a wildcard, which says nothing of the others.
-fn still_passed(few: usize, r: Row, m: usize, b: usize) -> usize
-    requires { ⌜ (m ≤ r .past) × (r .past ≤ b) ⌝ }
+// its size, in the middle too. A level of one byte may be a wildcard, which says nothing of the others.
+fn still_passed(s: &[u8], few: usize, r: Row, m: usize, b: usize, d: usize) -> usize
+    requires { ⌜ (m ≤ r .past) × (r .past ≤ b) × (64 + b ≤ length (now s)) ⌝ }
 {
     if few != BEHIND {
         return few;
@@ -80,11 +81,14 @@ fn still_passed(few: usize, r: Row, m: usize, b: usize) -> usize
     if r.len < 2 {
         return few;
     }
-    if r.past - m < (b - r.past) / 16 {
-        0
-    } else {
-        few
+    let from = r.past;
+    let size = from - m;
+    let left = b - from;
+    if left / 16 <= size {
+        return few;
     }
+    let p = step_back(s, from, from + left / 2, b, d, size);
+    p.few
 }
 
 // The child with a level, in the row at depth d whose units go from lo up to hi.
@@ -105,7 +109,7 @@ pub fn find_child(s: &[u8], base: usize, lo: usize, hi: usize, d: usize, level: 
             Order::Less => {
                 let r = forest::row_at(s, base, m, b);
                 a = larger(r.past, mid + 1);
-                few = still_passed(few, r, m, b);
+                few = still_passed(s, few, r, m, b, d);
             }
             Order::Equal => {
                 let row = forest::row_at(s, base, m, b);
