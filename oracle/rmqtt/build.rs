@@ -11,7 +11,6 @@ const MODULES: [(&str, &str); 2] = [
 ];
 
 fn main() {
-    println!("cargo:rerun-if-changed=build.rs");
     println!("cargo:rerun-if-env-changed=RMQTT_SRC");
     let named = env::var_os("RMQTT_SRC").map(PathBuf::from);
     let folder = named.unwrap_or_else(|| PathBuf::from("../../../shared/docs/src"));
