@@ -19,7 +19,6 @@ const BEGINS: &str = "#[derive(Clone, Debug)]\npub struct TimedValue<V>(V, Optio
 const ENDS: &str = "//impl<V> Eq for TimedValue<V> where V: Eq {}\n";
 
 fn main() {
-    println!("cargo:rerun-if-changed=build.rs");
     println!("cargo:rerun-if-env-changed=RMQTT_SRC");
     let named = env::var_os("RMQTT_SRC").map(PathBuf::from);
     let folder = named.unwrap_or_else(|| PathBuf::from("../../../shared/docs/src"));

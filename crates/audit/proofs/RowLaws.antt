@@ -12,7 +12,7 @@ use Rattle.level.specs.Kinds.{blank, isOnly, same}
 use Rattle.lent.specs.Parts.{part}
 use Rattle.lent.specs.Total.{read}
 use Rattle.lent.proofs.Parts.{part-eq, take-part, drop-part}
-use Rattle.lent.proofs.Anywhere.{read-in}
+use Rattle.lent.proofs.Anywhere.{read-in, from-part}
 use Rattle.held.specs.Order.{Level, levelLt}
 use Rattle.held.specs.Room.{levelCells}
 use Rattle.held.proofs.Orders.{level-order, eq-lower}
@@ -28,7 +28,6 @@ use Rattle.audit.specs.Tally.{taken}
 use Rattle.audit.specs.Heads.{HeadAt}
 use Rattle.content.specs.Contents.{every, levelFine, plainTo, ownFine}
 use Rattle.audit.specs.Tests.{endAt, mayHold, shapeFine, less, follows, marksFine, fillFine, writtenFine, textFine, placedFine, rowFine}
-use Rattle.content.proofs.UnitLaws.{from-part}
 use Rattle.content.proofs.LevelLaws.{short-fine}
 
 -- the head

@@ -5,3 +5,8 @@ mod retained;
 mod subscriptions;
 mod telling;
 mod texts;
+
+// How an answer is told, for crates that offer the same calls in another form.
+pub use telling::tell_changed;
+pub use telling::tell_listed;
+pub use telling::tell_matched;

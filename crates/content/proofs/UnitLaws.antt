@@ -14,7 +14,7 @@ use Rattle.lent.specs.Numbers.{be}
 use Rattle.lent.specs.Parts.{part}
 use Rattle.lent.specs.Total.{read}
 use Rattle.lent.proofs.Parts.{part-eq, part-part, length-part}
-use Rattle.lent.proofs.Anywhere.{read-in}
+use Rattle.lent.proofs.Anywhere.{read-in, from-part}
 use Rattle.content.specs.Contents.{every, upward, valuesFine, recordsFine}
 
 -- one byte again and again: a turn, where i is the next place
@@ -45,13 +45,6 @@ module _ (p : ℕ) (s : List ℕ) where
   number-here : (w : ℕ) → p + w ≤ length s → be (part 0 w (drop p s)) ≡ read w p s
   unfolding part
   number-here w h = sym (read-in w p s h)
-
--- the same from a part of c bytes
-pub from-part : (p c q w : ℕ) (s : List ℕ) → q + w ≤ c → p + c ≤ length s → read w q (take (p + c - p) (drop p s)) ≡ read w (p + q) s
-from-part p c q w s h k =
-    let e : p + c - p ≡ c = omega arith in
-    let l : length (part p c s) ≡ c = length-part p c s k in
-    rw (e, ← part-eq p c s) (read-in w q (part p c s) (rw l h) ∙ ap be (part-part q w p c s h) ∙ sym (read-in w (p + q) s (omega arith)))
 
 -- the next value
 pub up-some : (at left : ℕ) (s : List ℕ) {a b : ℕ} → (left ≡ 0 → ⊥) → at + 16 + left * 16 ≤ length s → a ≡ read 4 0 (take (at + 32 - at) (drop at s)) → b ≡ read 4 16 (take (at + 32 - at) (drop at s))

@@ -2,15 +2,14 @@
 ghost use mathlib.Core.Path.{_≡_};
 ghost use Rattle.forest.specs.Compare.{orderOf};
 use crate::Order;
+use crate::rows::smaller;
 
 pub fn compare(a: &[u8], b: &[u8]) -> Order
     ensures { λ r. ⌜ r ≡ orderOf (now (a .entry)) (now (b .entry)) ⌝ }
 {
+    let both = smaller(a.len(), b.len());
     let mut i = 0;
-    while i < a.len() {
-        if b.len() <= i {
-            return Order::Greater;
-        }
+    while i < both {
         if a[i] < b[i] {
             return Order::Less;
         }
@@ -21,6 +20,9 @@ pub fn compare(a: &[u8], b: &[u8]) -> Order
     }
     if a.len() < b.len() {
         return Order::Less;
+    }
+    if b.len() < a.len() {
+        return Order::Greater;
     }
     Order::Equal
 }

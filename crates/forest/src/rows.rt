@@ -5,21 +5,23 @@ ghost use lib.ListN.{length};
 ghost use Rattle.forest.specs.Places.{unitAt, levelIn, RowAt};
 use crate::Row;
 
-fn smaller(a: usize, b: usize) -> usize
+pub fn smaller(a: usize, b: usize) -> usize
     ensures { λ r. ⌜ r ≡ min a b ⌝ }
 {
     if b < a { b } else { a }
 }
 
-// The row that begins at unit i, with nothing past unit n.
+// The row that begins at unit i, with nothing past unit n. Its numbers are read from a part of known length: then the compiler
+// tests no place a second time.
 pub fn row_at(s: &[u8], base: usize, i: usize, n: usize) -> Row
     requires { ⌜ (i < n) × (unitAt base n ≤ length (now s)) ⌝ }
     ensures { λ r. ⌜ RowAt base (now (s .entry)) i n r ⌝ }
 {
     let at = base + i * 16;
-    let len = lent::get16(s, at) as usize;
-    let own = lent::get16(s, at + 2) as usize;
-    let below = lent::get16(s, at + 4) as usize;
+    let head = &s[at..at + 8];
+    let len = lent::get16(head, 0) as usize;
+    let own = lent::get16(head, 2) as usize;
+    let below = lent::get16(head, 4) as usize;
     let end = smaller(i + (len + 23) / 16 + own, n);
     let past = smaller(end + below, n);
     Row {

@@ -11,7 +11,7 @@ use borrow.Author.Tests.{le-leb, lt-leb}
 use Rattle.lent.specs.Numbers.{be, bytes}
 use Rattle.lent.specs.Parts.{part, patch, Framed}
 use Rattle.lent.specs.Total.{read, write, opened, closed}
-use Rattle.lent.proofs.Parts.{length-part, length-patch, part-patch-before, part-patch-after, framed-patch, framed-same}
+use Rattle.lent.proofs.Parts.{part-eq, part-part, length-part, length-patch, part-patch-before, part-patch-after, framed-patch, framed-same}
 use Rattle.lent.proofs.Turns.{part-none, patch-none}
 use Rattle.lent.proofs.Digits.{length-bytes, bytes-mod, set-pair, get-put, put-halves}
 
@@ -41,6 +41,13 @@ module _ (w p : ℕ) (s : List ℕ) where
 
   pub got-far : length s - w < p → 0 ≡ read w p s
   got-far h = sym (read-out (omega arith))
+
+-- the same from a part of c bytes
+pub from-part : (p c q w : ℕ) (s : List ℕ) → q + w ≤ c → p + c ≤ length s → read w q (take (p + c - p) (drop p s)) ≡ read w (p + q) s
+from-part p c q w s h k =
+    let e : p + c - p ≡ c = omega arith in
+    let l : length (part p c s) ≡ c = length-part p c s k in
+    rw (e, ← part-eq p c s) (read-in w q (part p c s) (rw l h) ∙ ap be (part-part q w p c s h) ∙ sym (read-in w (p + q) s (omega arith)))
 
 -- bytes written
 module _ (p : ℕ) (v s : List ℕ) where

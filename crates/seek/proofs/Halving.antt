@@ -54,36 +54,10 @@ module _ (base : ℕ) (s : List ℕ) (g : Level) (d lo hi a b : ℕ) where
       sym (child-none g a (l .row) (omega (arith, l .stands .size))) ∙ l .same-child
 
   -- a turn, in the words of the code
-  module _ (p : Probe) (r : Row) (l : List ℕ) (o : Order) (k : Narrowed base s g d lo hi a b) (probed : Probed s d a b p)
-      (row : RowAt base s (p .node) b r) (read : l ≡ levelIn base s (p .node) b) (order : o ≡ orderOf l g) where
+  module _ (p : Probe) (l : List ℕ) (o : Order) (k : Narrowed base s g d lo hi a b) (probed : Probed s d a b p)
+      (read : l ≡ levelIn base s (p .node) b) (order : o ≡ orderOf l g) where
     turn : (w : RawStands base s d lo hi) → Turn base s g d a b (p .node) (k .left w .row)
     turn w = turn-at base s g d a b (p .node) (k .left w .row) (k .left w .stands) (k .depth) (probed .low) (omega (arith, probed .high, probed .before)) (probed .flat)
-
-    -- the sibling holds the unit mid
-    holds : (w : RawStands base s d lo hi) → p .mid < kidsEnd base s (p .node) b
-    holds w =
-        ⊎-elim (λ (h : p .mid < kidsEnd base s (p .node) b). h)
-        (λ (h : kidsEnd base s (p .node) b ≤ p .mid).
-        absurd (omega (
-          arith,
-          probed .deep (kidsEnd base s (p .node) b) (omega (arith, row .on, row .within, row .past-is)) h,
-          mark-first wholes base s d (kidsEnd base s (p .node) b) b (turn w .behind) (turn w .stands-behind) (omega (arith, probed .before)),
-        )))
-        (lt-or-ge (p .mid) (kidsEnd base s (p .node) b))
-
-    pub narrow-less : (x : ℕ) → x ≡ max (r .past) (p .mid + 1) → o ≡ Less → Narrowed base s g d lo hi x b
-    narrow-less x e q =
-        record {
-          depth = k .depth;
-          left = λ w.
-              let z : kidsEnd base s (p .node) b ≡ x = omega (arith, row .past-is, holds w) in
-              let t : levelLt (levelIn base s (p .node) b) g ≡ true = rw read at (order-less l g (sym order ∙ q)) in
-              record {
-                row = turn w .behind;
-                stands = rw z at (turn w .stands-behind);
-                same-child = rw z at (turn w .less t) ∙ k .left w .same-child;
-              };
-        }
 
     pub narrow-greater : o ≡ Greater → Narrowed base s g d lo hi a (p .node)
     narrow-greater q =
@@ -94,7 +68,35 @@ module _ (base : ℕ) (s : List ℕ) (g : Level) (d lo hi a b : ℕ) where
               record { row = turn w .before; stands = turn w .stands-before; same-child = turn w .greater t ∙ k .left w .same-child };
         }
 
-    pub narrow-equal : o ≡ Equal → RawStands base s d lo hi → At (p .node) (r .end) (r .past) ≡ childOf g lo (rawIn base s lo hi)
-    narrow-equal q w =
-        let t : levelIn base s (p .node) b ≡ g = sym read ∙ order-equal l g (sym order ∙ q) in
-        child-same (p .node) (row .end-is) (row .past-is) ∙ turn w .equal t ∙ k .left w .same-child
+    -- with the row that was read
+    module _ (r : Row) (row : RowAt base s (p .node) b r) where
+      -- the sibling holds the unit mid
+      holds : (w : RawStands base s d lo hi) → p .mid < kidsEnd base s (p .node) b
+      holds w =
+          ⊎-elim (λ (h : p .mid < kidsEnd base s (p .node) b). h)
+          (λ (h : kidsEnd base s (p .node) b ≤ p .mid).
+          absurd (omega (
+            arith,
+            probed .deep (kidsEnd base s (p .node) b) (omega (arith, row .on, row .within, row .past-is)) h,
+            mark-first wholes base s d (kidsEnd base s (p .node) b) b (turn w .behind) (turn w .stands-behind) (omega (arith, probed .before)),
+          )))
+          (lt-or-ge (p .mid) (kidsEnd base s (p .node) b))
+
+      pub narrow-less : (x : ℕ) → x ≡ max (r .past) (p .mid + 1) → o ≡ Less → Narrowed base s g d lo hi x b
+      narrow-less x e q =
+          record {
+            depth = k .depth;
+            left = λ w.
+                let z : kidsEnd base s (p .node) b ≡ x = omega (arith, row .past-is, holds w) in
+                let t : levelLt (levelIn base s (p .node) b) g ≡ true = rw read at (order-less l g (sym order ∙ q)) in
+                record {
+                  row = turn w .behind;
+                  stands = rw z at (turn w .stands-behind);
+                  same-child = rw z at (turn w .less t) ∙ k .left w .same-child;
+                };
+          }
+
+      pub narrow-equal : o ≡ Equal → RawStands base s d lo hi → At (p .node) (r .end) (r .past) ≡ childOf g lo (rawIn base s lo hi)
+      narrow-equal q w =
+          let t : levelIn base s (p .node) b ≡ g = sym read ∙ order-equal l g (sym order ∙ q) in
+          child-same (p .node) (row .end-is) (row .past-is) ∙ turn w .equal t ∙ k .left w .same-child

@@ -9,6 +9,7 @@ use lib.ListN.{length}
 use Rattle.refusal.specs.declared.Refusal.{Refusal}
 use Rattle.refusal.specs.declared.Refusal.the-variants.{NotAStore, ShortRoom}
 use Rattle.lent.specs.Parts.{patch}
+use Rattle.lent.proofs.Turns.{patch-none}
 use Rattle.level.specs.Levels.{split}
 use Rattle.level.proofs.Join.{join-split}
 use Rattle.topic.specs.Rules.{filterRules, nameRules}
@@ -88,6 +89,10 @@ module _ (s name : List ℕ) where
     ask-no f z = record { told = λ (st : SubscriptionStore s). answered (isMatch (split name) (heldIn s)) No fine (ap answerOf (sym z ∙ hit-is st f)) }
 
 -- the listing
+patch-empty : (v s : List ℕ) → length v ≡ 0 → patch 0 v s ≡ s
+patch-empty [] s h = patch-none 0 s
+patch-empty (x ∷ v) s h = absurd (omega (arith, h))
+
 module _ (s name : List ℕ) where
   abbrev out-bytes : List ℕ
   out-bytes = listingBytes (split name) (heldIn s)
@@ -122,6 +127,13 @@ module _ (s name : List ℕ) where
     list-short out h =
         give-refused (SubscriptionStore s) (listingRules name (length out) (heldIn s)) list-answer out-bytes out (ShortRoom (m .bytes))
         (λ (st : SubscriptionStore s). buffer-short (nameRules name) out-bytes out fine (bytes-is st) h)
+
+    pub list-empty : (out : List ℕ) → m .bytes ≡ 0 → ListsKnown s name out out (Given (m .bytes) (m .records))
+    list-empty out h =
+        give-all (SubscriptionStore s) (listingRules name (length out) (heldIn s)) list-answer out-bytes out out
+        (λ (st : SubscriptionStore s). buffer-fits (nameRules name) out-bytes out fine (bytes-is st) (omega (arith, h))) (Given (m .bytes) (m .records))
+        (λ (st : SubscriptionStore s). rw (bytes-is st, records-is st))
+        (λ (st : SubscriptionStore s). sym (patch-empty out-bytes out (sym (bytes-is st) ∙ h)))
 
     pub list-given : (out after : List ℕ) → m .bytes ≤ length out
         → (Walked base s n → length (listBytes (split name) (valuesIn base s n)) ≤ length out → after ≡ patch 0 (listBytes (split name) (valuesIn base s n)) out)

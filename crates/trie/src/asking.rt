@@ -61,7 +61,8 @@ pub fn is_match_known(region: &[u8], name: &[u8]) -> Matched
     is_match_accepted(region, name)
 }
 
-// The listing into a buffer, in the units of a store and for a name that was accepted. It is measured before it is written.
+// The listing into a buffer, in the units of a store and for a name that was accepted. It is measured before it is written; where
+// nothing matches, there is nothing to write.
 fn list_in(s: &[u8], base: usize, n: usize, room: usize, name: &[u8], out: &mut [u8]) -> Listed
     requires { ⌜ UnitsOf (now s) base n room × (checked (nameRules (now name)) ≡ Accepted) × (length (now name) ≤ 65535) ⌝ }
     ensures { λ r. ⌜ ListsKnown (now (s .entry)) (now (name .entry)) (now (out .entry)) (now (out .exit)) r ⌝ }
@@ -69,6 +70,9 @@ fn list_in(s: &[u8], base: usize, n: usize, room: usize, name: &[u8], out: &mut 
     let m = walk::measure(s, base, n, name);
     let bytes = m.bytes;
     let records = m.records;
+    if bytes == 0 {
+        return Listed::Given { bytes, records };
+    }
     if out.len() < bytes {
         return Listed::Refused(Refusal::ShortRoom { needed: bytes });
     }

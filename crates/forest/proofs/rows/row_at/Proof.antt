@@ -10,17 +10,23 @@ mul-at c = search needs
 add-at : tie.Need-add-at
 add-at c = search needs
 
+add-head : tie.Need-add-head
+add-head c = search needs
+
+sub-head : tie.Need-sub-head
+sub-head c = search needs
+
+part-head-start : tie.Need-part-head-start
+part-head-start c = search needs
+
+part-head-end : tie.Need-part-head-end
+part-head-end c = search needs
+
 get16-requires : tie.Need-get16-requires
 get16-requires c κs = search needs
 
-add-get16 : tie.Need-add-get16
-add-get16 c = search needs
-
 get16-requires-2 : tie.Need-get16-requires-2
 get16-requires-2 c κs = search needs
-
-add-get16-2 : tie.Need-add-get16-2
-add-get16-2 c = search needs
 
 get16-requires-3 : tie.Need-get16-requires-3
 get16-requires-3 c κs = search needs
@@ -52,10 +58,12 @@ row-at-spec =
     (tie.spec
     mul-at
     add-at
+    add-head
+    sub-head
+    part-head-start
+    part-head-end
     get16-requires
-    add-get16
     get16-requires-2
-    add-get16-2
     get16-requires-3
     add-smaller
     add-smaller-2

@@ -17,9 +17,6 @@ loop-holds c = search (needs, narrow-all)
 probe-requires : tie.Need-probe-requires Inv-loop μ-loop
 probe-requires c κs = search needs
 
-row-at-requires : tie.Need-row-at-requires Inv-loop μ-loop
-row-at-requires c κs = search needs
-
 level-at-requires : tie.Need-level-at-requires Inv-loop μ-loop
 level-at-requires c κs = search needs
 
@@ -29,27 +26,37 @@ compare-requires c κs = search needs
 enum-told : tie.Need-enum-told Inv-loop μ-loop
 enum-told c = search needs
 
+row-at-requires : tie.Need-row-at-requires Inv-loop μ-loop
+row-at-requires c κs = search needs
+
 add-larger : tie.Need-add-larger Inv-loop μ-loop
 add-larger c = search needs
 
 larger-requires : tie.Need-larger-requires Inv-loop μ-loop
 larger-requires c κs = search needs
 
+still-passed-requires : tie.Need-still-passed-requires Inv-loop μ-loop
+still-passed-requires c κs = search needs
+
 loop-less : tie.Need-loop-less Inv-loop μ-loop
 loop-less c = search needs
 
 loop-again : tie.Need-loop-again Inv-loop μ-loop
 loop-again c =
-    let e = c .before .before .before in (
+    let f = c .before .before in
+    let e = f .before .before .before in (
       search needs,
       search needs,
       search needs,
-      narrow-less _ _ _ _ _ _ _ _ (e .before .before .before .probe .result) (e .before .before .row-at .result) _ _ (e .before .before .before .before .before .loop .inv .3)
-          (e .before .before .before .probe .ensures) (e .before .before .row-at .ensures) (e .before .level-at .ensures) (e .compare .ensures) _ (c .larger .ensures) (search needs),
+      narrow-less _ _ _ _ _ _ _ _ (e .before .before .probe .result) _ _ (e .before .before .before .before .loop .inv .3)
+          (e .before .before .probe .ensures) (e .before .level-at .ensures) (e .compare .ensures) (f .row-at .result) (f .row-at .ensures) _ (c .before .larger .ensures) (search needs),
     )
 
 enum-told-2 : tie.Need-enum-told-2 Inv-loop μ-loop
 enum-told-2 c = search needs
+
+row-at-requires-2 : tie.Need-row-at-requires-2 Inv-loop μ-loop
+row-at-requires-2 c κs = search needs
 
 returns : tie.Need-returns Inv-loop μ-loop
 returns c = search (needs, narrow-equal)
@@ -74,15 +81,17 @@ find-child-spec =
     μ-loop
     loop-holds
     probe-requires
-    row-at-requires
     level-at-requires
     compare-requires
     enum-told
+    row-at-requires
     add-larger
     larger-requires
+    still-passed-requires
     loop-less
     loop-again
     enum-told-2
+    row-at-requires-2
     returns
     enum-told-3
     loop-less-2

@@ -7,10 +7,10 @@ use Rattle.seek.proofs.children.step_back.Statement.{statement}
 use Rattle.seek.proofs.children.step_back.Tie as tie
 
 abbrev Inv-loop : tie.InvT-loop
-Inv-loop s a mid b d m₀ left₀ m left = (a ≤ m) × (m ≤ mid) × Passed s d mid m
+Inv-loop s a mid b d steps m₀ left₀ m left = (a ≤ m) × (m ≤ mid) × Passed s d mid m
 
 abbrev μ-loop : tie.MeasureT-loop
-μ-loop s a mid b d m₀ left₀ m left = m - a
+μ-loop s a mid b d steps m₀ left₀ m left = m - a
 
 loop-holds : tie.Need-loop-holds Inv-loop μ-loop
 loop-holds c = search (needs, passed-none)

@@ -1,4 +1,4 @@
-use Rattle.trie.proofs.AskLaws.{list-short, list-given}
+use Rattle.trie.proofs.AskLaws.{list-empty, list-short, list-given}
 use borrow.Author.Needs.{needs}
 use Rattle.trie.proofs.asking.list_in.Statement.{statement}
 use Rattle.trie.proofs.asking.list_in.Tie as tie
@@ -13,7 +13,11 @@ measure-requires c κs = search needs
 
 -- src/asking.rt:73:9
 returns : tie.Need-returns
-returns c = search (needs, list-short)
+returns c = search (needs, list-empty)
+
+-- src/asking.rt:77:9
+returns-2 : tie.Need-returns-2
+returns-2 c = search (needs, list-short)
 
 -- src/asking.rt:75:5
 write-all-requires : tie.Need-write-all-requires
@@ -24,9 +28,9 @@ same-length : tie.Need-same-length
 same-length c = search needs
 
 -- src/asking.rt:65:1
-returns-2 : tie.Need-returns-2
-returns-2 c = search (needs, list-given)
+returns-3 : tie.Need-returns-3
+returns-3 c = search (needs, list-given)
 
 pub list-in-spec : {M : Type 1} → statement M
 list-in-spec =
-    tie.close (tie.spec measure-requires returns write-all-requires same-length returns-2)
+    tie.close (tie.spec measure-requires returns returns-2 write-all-requires same-length returns-3)
