@@ -68,32 +68,26 @@ fn say_byte(byte: u8) {
     say_number(byte as u64);
 }
 
-// Bytes as numbers, one after another, behind a label.
-pub fn say_bytes(label: &[u8], bytes: &[u8]) {
+// The first n bytes of a buffer, as numbers, behind a label.
+fn say_bytes(label: &[u8], out: &[u8], n: usize) {
     say(label);
     say(b":");
     let mut i = 0;
-    while i < bytes.len() {
-        say(b" ");
-        say_byte(bytes[i]);
+    while i < n {
+        if i < out.len() {
+            say(b" ");
+            say_byte(out[i]);
+        }
         i += 1;
     }
     say(b"\n");
-}
-
-// The first bytes of a buffer.
-fn say_front(label: &[u8], out: &[u8], bytes: usize) {
-    if out.len() < bytes {
-        return;
-    }
-    say_bytes(label, &out[..bytes]);
 }
 
 // The records of a listing or a lookup, byte by byte, behind a label.
 pub fn say_listed(label: &[u8], listed: Listed, out: &[u8]) {
     match listed {
         Listed::Given { bytes, records: _ } => {
-            say_front(label, out, bytes);
+            say_bytes(label, out, bytes);
         }
         Listed::Refused(refusal) => {
             say(label);

@@ -1,5 +1,4 @@
 use Prim.Native.Nat.{_-_, _≤_}
-use lib.ListN.{length}
 use borrow.Author.Needs.{needs}
 use Rattle.runs.proofs.saying.say_bytes.Statement.{statement}
 use Rattle.runs.proofs.saying.say_bytes.Tie as tie
@@ -9,10 +8,10 @@ use Rattle.runs.proofs.saying.say.Reads as say-reads
 use Rattle.runs.proofs.saying.say_byte.Reads as say-byte-reads
 
 abbrev Inv-loop : tie.InvT-loop
-Inv-loop label bytes i₀ t5 t6 i = i ≤ length bytes
+Inv-loop label out n i₀ t6 t7 i = i ≤ n
 
 abbrev μ-loop : tie.MeasureT-loop
-μ-loop label bytes i₀ t5 t6 i = length bytes - i
+μ-loop label out n i₀ t6 t7 i = n - i
 
 -- src/saying.rt:73:5
 say-requires : tie.Need-say-requires Inv-loop μ-loop
@@ -30,23 +29,23 @@ say-requires-2 c κs = search needs
 loop-holds : tie.Need-loop-holds Inv-loop μ-loop
 loop-holds c = search needs
 
--- src/saying.rt:77:13
+-- src/saying.rt:78:17
 slice-aggregate-say-2 : tie.Need-slice-aggregate-say-2 Inv-loop μ-loop
 slice-aggregate-say-2 c = search needs
 
--- src/saying.rt:77:9
+-- src/saying.rt:78:13
 say-requires-3 : tie.Need-say-requires-3 Inv-loop μ-loop
 say-requires-3 c κs = search needs
 
--- src/saying.rt:78:18
+-- src/saying.rt:79:22
 shared-slice-read-say-byte : tie.Need-shared-slice-read-say-byte Inv-loop μ-loop
 shared-slice-read-say-byte c = search needs
 
--- src/saying.rt:78:9
+-- src/saying.rt:79:13
 say-byte-requires : tie.Need-say-byte-requires Inv-loop μ-loop
 say-byte-requires c κs = search needs
 
--- src/saying.rt:79:9
+-- src/saying.rt:81:9
 add-i : tie.Need-add-i Inv-loop μ-loop
 add-i c = search needs
 
@@ -58,11 +57,11 @@ loop-less c = search needs
 loop-again : tie.Need-loop-again Inv-loop μ-loop
 loop-again c = search needs
 
--- src/saying.rt:81:9
+-- src/saying.rt:83:9
 slice-aggregate-say-3 : tie.Need-slice-aggregate-say-3 Inv-loop μ-loop
 slice-aggregate-say-3 c = search needs
 
--- src/saying.rt:81:5
+-- src/saying.rt:83:5
 say-requires-4 : tie.Need-say-requires-4 Inv-loop μ-loop
 say-requires-4 c κs = search needs
 
