@@ -117,10 +117,52 @@ uint64_t cjumbradi_is_match(const uint8_t *region, size_t region_len, const uint
 uint64_t cjumbradi_listing(const uint8_t *region, size_t region_len, const uint8_t *name, size_t name_len,
                            uint8_t *out, size_t out_len, uint64_t *bytes, uint64_t *records);
 
-/* How many nodes, and how many pairs of a filter and a value, a store of subscriptions has; how many
- * names a store of retained names has. The region is only read. Refuse 11. */
+/* How many nodes, and how many pairs of a filter and a value, a store of subscriptions has. The region is
+ * only read. Refuse 11. */
 uint64_t cjumbradi_nodes_size(const uint8_t *region, size_t region_len, uint64_t *nodes);
 uint64_t cjumbradi_values_size(const uint8_t *region, size_t region_len, uint64_t *values);
+
+/* The answers of cjumbradi_set. */
+#define CJUMBRADI_SET_NEW 1
+#define CJUMBRADI_SET_REPLACED 2
+#define CJUMBRADI_SET_ERASED 3
+#define CJUMBRADI_SET_NOT_HELD 4
+
+/* Set the record of a name in a store of retained names: a handle, by which the caller finds the message,
+ * and the moment at which it expires, in milliseconds of the caller's clock. Where `expires` is 0 it
+ * never does, and `moment` is not looked at. `payload` is the length of the message: with 0 the name is
+ * erased, and the handle and the moment are not looked at. Answers 1 if the name is new, 2 if its record
+ * was replaced, also where that had expired; 3 if the name was erased, 4 if it was not held. Refuses 11,
+ * then a fault of the name (1 to 5), and with a payload 12, then 13, 14, 15: those only where the name is
+ * not held. */
+uint64_t cjumbradi_set(uint8_t *region, size_t region_len, const uint8_t *name, size_t name_len,
+                       uint64_t payload, uint32_t handle, uint64_t expires, uint64_t moment,
+                       uint64_t *answer);
+
+/* The lookup of a filter at a time: the held names that it takes by MQTT 4.7 and that have not expired,
+ * which they have from their moment on. They are in the order of their levels, levels by their bytes, a
+ * shorter beginning first: 'a', 'a/b', 'a!'. A record is the bytes 52 56, the length of the name (2
+ * bytes), the name, its handle (4 bytes) and the milliseconds that are left (8 bytes), 0 where it never
+ * expires; all numbers high byte first. Hands back how many bytes and records there are; the bytes of
+ * the buffer past them stay. Refuses 11, then a fault of the filter (1 to 4, 6, 7), then 16 as for a
+ * listing. */
+uint64_t cjumbradi_lookup(const uint8_t *region, size_t region_len, const uint8_t *filter,
+                          size_t filter_len, uint64_t clock, uint8_t *out, size_t out_len,
+                          uint64_t *bytes, uint64_t *records);
+
+/* A page of all names that have not expired, as the lookup of '#' gives them, so that no name with a
+ * leading '$' appears: `offset` records are skipped and at most `limit` given. `more` is 1 where more
+ * follow, else 0. Refuses 11, then 16; then there are 0 records and `more` is 0. */
+uint64_t cjumbradi_page(const uint8_t *region, size_t region_len, uint64_t clock, uint64_t offset,
+                        uint64_t limit, uint8_t *out, size_t out_len, uint64_t *bytes,
+                        uint64_t *records, uint64_t *more);
+
+/* Remove every record that has expired at a time, and tell how many. A record that has expired and is
+ * not swept is shown again by an earlier clock. Refuses 11. */
+uint64_t cjumbradi_sweep(uint8_t *region, size_t region_len, uint64_t clock, uint64_t *removed);
+
+/* How many names a store of retained names has, with those that have expired and were not swept. The
+ * region is only read. Refuses 11. */
 uint64_t cjumbradi_count(const uint8_t *region, size_t region_len, uint64_t *names);
 
 #ifdef __cplusplus
