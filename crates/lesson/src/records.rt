@@ -1,0 +1,68 @@
+// The records of a listing, printed: a line for each, and then how many records and values there are.
+ghost use Prim.Native.Nat.{_≤_, _<_};
+ghost use lib.ListN.{length};
+use crate::answers::say;
+use crate::answers::say_number;
+
+// The number of two bytes at a place.
+fn two(out: &[u8], at: usize) -> usize
+    ensures { λ r. ⌜ r < 65536 ⌝ }
+{
+    lent::get16(out, at) as usize
+}
+
+// The values of a record, which begin at a place.
+fn say_values(out: &[u8], at: usize, count: usize)
+    requires { ⌜ (at ≤ 4294967296) × (count < 65536) ⌝ }
+{
+    let mut i: usize = 0;
+    while i < count {
+        say(b" ");
+        say_number(lent::get32(out, at + 4 * i));
+        i += 1;
+    }
+}
+
+// The bytes from one place up to another.
+fn say_part(out: &[u8], from: usize, end: usize) {
+    if end < from {
+        return;
+    }
+    if out.len() < end {
+        return;
+    }
+    say(&out[from..end]);
+}
+
+// The record at a place; answers how many values it has.
+fn say_record(out: &[u8], at: usize) -> usize
+    requires { ⌜ at ≤ 4294900000 ⌝ }
+    ensures { λ r. ⌜ r < 65536 ⌝ }
+{
+    let end = at + 4 + two(out, at + 2);
+    let count = two(out, end);
+    say(b"hit ");
+    say_part(out, at + 4, end);
+    say_values(out, end + 2, count);
+    say(b"\n");
+    count
+}
+
+// All records of the first bytes of a buffer.
+pub fn say_all(out: &[u8], bytes: usize, records: usize) {
+    let mut at: usize = 0;
+    let mut values: usize = 0;
+    while at < bytes {
+        if 4294900000 < at {
+            return;
+        }
+        let count = say_record(out, at);
+        values += count;
+        at = at + 6 + two(out, at + 2) + 4 * count;
+    }
+    say(b"total ");
+    say_number(records as u64);
+    say(b" ");
+    say_number(values as u64);
+    say(b"\n");
+}
