@@ -13,6 +13,7 @@ pub use nodes::go_on;
 pub use nodes::hash_child;
 pub use nodes::level_stop;
 pub use sizes::measure;
+pub use sizes::most_bytes;
 pub use sizes::own_text;
 pub use sizes::value_count;
 
