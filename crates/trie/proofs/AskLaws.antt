@@ -38,7 +38,8 @@ use Rattle.forest.specs.Stands.{Stands}
 use Rattle.forest.proofs.StandsLaws.{stands-read}
 use Rattle.walk.specs.declared.Measured.{Measured}
 use Rattle.walk.specs.Nodes.{Listed as Walked, valuesIn}
-use Rattle.walk.specs.Sizes.{Sized, nothing, AtMost}
+use Rattle.walk.specs.Bounds.{AtMost}
+use Rattle.walk.specs.Sizes.{Sized, nothing}
 use Rattle.walk.proofs.HeldHeights.{Short, height-held}
 use Rattle.walk.proofs.Small.{Exact, measured}
 use Rattle.listing.specs.Written.{Added}

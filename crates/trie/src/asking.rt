@@ -83,10 +83,10 @@ fn list_measured(
     if out.len() < bytes {
         return Listed::Refused(Refusal::ShortRoom { needed: bytes });
     }
-    let all = listing::write_all(s, base, n, name, out);
+    let written = listing::write_all(s, base, n, name, out);
     Listed::Given {
-        bytes: all.bytes,
-        records: all.records,
+        bytes: written.bytes,
+        records: written.records,
     }
 }
 
@@ -99,7 +99,7 @@ fn list_in(s: &[u8], base: usize, n: usize, room: usize, name: &[u8], out: &mut 
     if 65535 < n {
         return list_measured(s, base, n, room, name, out);
     }
-    let most = walk::most_bytes(n, name);
+    let most = walk::most_bytes(n, name, out.len());
     if out.len() < most {
         return list_measured(s, base, n, room, name, out);
     }

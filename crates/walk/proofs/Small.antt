@@ -1,11 +1,9 @@
--- A listing from few units is short: it has a bound that is known before the walk, and no number of it goes past 64 bits, so what
--- `measure` answers is exact. Assumes nothing.
+-- A listing from few units is short: no number of it goes past 64 bits, so what `measure` answers is exact. Assumes nothing.
 use mathlib.Core.Path.{_≡_, refl, sym, ap, _∙_}
 use mathlib.Core.Bool.{Bool, true, false, cond, true≢false}
 use mathlib.Core.List.{List, [], _∷_, _++_}
-use Prim.Native.Nat.{ℕ, _+_, _-_, _*_, _^_, _≤_, _<_}
+use Prim.Native.Nat.{ℕ, _+_, _-_, _*_, _≤_}
 use native.Mathlib.Omega.{arith}
-use native.Mathlib.Nat.{le-trans, mul-le-mul, mul-le-mul-left}
 use lib.ListN.{length, length-append}
 use Rattle.level.specs.Kinds.{isOnly, same}
 use Rattle.level.specs.Levels.{split, join, width}
@@ -21,7 +19,7 @@ use Rattle.region.specs.Layout.{unitsF}
 use Rattle.forest.proofs.StandsLaws.{fork-units}
 use Rattle.walk.specs.declared.Measured.{Measured}
 use Rattle.walk.specs.Nodes.{valuesIn, Listed}
-use Rattle.walk.specs.Sizes.{nothing, Sized, AtMost}
+use Rattle.walk.specs.Sizes.{nothing, Sized}
 use Rattle.walk.proofs.Widths.{width-next, length-join, length-join-next, length-record}
 use Rattle.walk.proofs.SizeLaws.{count-miss, count-end, count-on}
 
@@ -114,7 +112,7 @@ walk-few (n ∷ ns) q (hit v k) =
     rw count-on (omega (arith, t, hash-few (kid hash k), walk-few ns (q .2) (kid plus k), walk-few ns (q .2) (kid n k)))
 
 -- a listing
-list-small : (most : ℕ) (ls : Filter) → Plain ls → 2 * width ls + 7 ≤ most → (F : Forest ℕ) → length (listBytes ls F) ≤ most * listCount ls F + 4 * unitsF F
+pub list-small : (most : ℕ) (ls : Filter) → Plain ls → 2 * width ls + 7 ≤ most → (F : Forest ℕ) → length (listBytes ls F) ≤ most * listCount ls F + 4 * unitsF F
 unfolding listBytes literalBytes listCount literalCount
 list-small most ls q l F = go ls q l (leadDollar ls)
   where
@@ -124,7 +122,7 @@ list-small most ls q l F = go ls q l (leadDollar ls)
     go (g ∷ gs) q l true = omega (arith, walk-small most gs (q .2) (g ∷ []) (omega (arith, l)) (kid g F), one-kid g F)
     go ls q l false = omega (arith, walk-small most ls q [] (omega (arith, l)) (hit [] F))
 
-list-few : (ls : Filter) → Plain ls → (F : Forest ℕ) → listCount ls F ≤ unitsF F
+pub list-few : (ls : Filter) → Plain ls → (F : Forest ℕ) → listCount ls F ≤ unitsF F
 unfolding listCount literalCount
 list-few ls q F = go ls q (leadDollar ls)
   where
@@ -133,28 +131,10 @@ list-few ls q F = go ls q (leadDollar ls)
     go (g ∷ gs) q true = omega (arith, walk-few gs (q .2) (kid g F), one-kid g F)
     go ls q false = omega (arith, walk-few ls q (hit [] F))
 
-name-width : (name : List ℕ) → width (split name) ≤ length name + 1
+pub name-width : (name : List ℕ) → width (split name) ≤ length name + 1
 name-width name =
     let w : length name ≡ width (split name) - 1 = sym (ap length (join-split name)) ∙ length-join (split name) in
     omega (arith, w)
-
--- the bound, and that it is a number of 64 bits
-pub bound-fits : {n long : ℕ} → n ≤ 65535 → long ≤ 65535 → n * (2 * long + 13) < 2 ^ 64
-bound-fits {n} {long} few short =
-    let wide : 2 * long + 13 ≤ 131083 = omega (arith, short) in
-    let a : n * (2 * long + 13) ≤ 65535 * 131083 = mul-le-mul few wide in
-    omega (arith, a)
-
--- each record has a unit of its own, and so has each value
-pub most-bytes : (n : ℕ) (name : List ℕ) → length name ≤ 65535 → AtMost n name (n * (2 * length name + 13))
-most-bytes n name short =
-    record {
-      is = λ F u q.
-          let c : ℕ = 2 * length name + 9 in
-          let a = list-small c (split name) q (omega (arith, name-width name)) F in
-          let b : c * listCount (split name) F ≤ c * n = mul-le-mul-left c (le-trans (list-few (split name) q F) u) in
-          omega (arith, a, b, u);
-    }
 
 -- so it is measured as it is
 pub record Exact (bytes records : ℕ) (m : Measured) : Type 0 where

@@ -1,14 +1,12 @@
 -- FOR THE CODE. What a walk's records take: their bytes and their number. A sum of over 64 bits stays at the largest number. Assumes nothing.
 use mathlib.Core.Path.{_≡_}
-use Prim.Native.Nat.{ℕ, _+_, _*_, _^_, _≤_, _<_, min}
+use Prim.Native.Nat.{ℕ, _+_, _*_, _^_, _<_, min}
 use mathlib.Core.List.{List, [], _∷_}
 use lib.ListN.{length}
-use Rattle.level.specs.Levels.{split, width}
+use Rattle.level.specs.Levels.{width}
 use Rattle.held.specs.Order.{Filter}
-use Rattle.held.specs.Edit.{Plain}
-use Rattle.held.specs.Forest.{Forest, Hit}
-use Rattle.held.specs.Stream.{oneOf, hashBytes, hashCount, walkBytes, walkCount, listBytes}
-use Rattle.region.specs.Layout.{unitsF}
+use Rattle.held.specs.Forest.{Hit}
+use Rattle.held.specs.Stream.{oneOf, hashBytes, hashCount, walkBytes, walkCount}
 use Rattle.walk.specs.declared.Node.{Node}
 use Rattle.walk.specs.declared.Measured.{Measured}
 use Rattle.walk.specs.Nodes.{NodeIs}
@@ -42,7 +40,3 @@ pub record HashSized (before : Measured) (n : Node) (size : ℕ) (m : Measured) 
 pub record Sizes (before : Measured) (base : ℕ) (s : List ℕ) (d : ℕ) (n : Node) (size : ℕ) (ns : Filter) (m : Measured) : Type 0 where
   pub is : (h : Hit ℕ) → NodeIs base s d n h → (p : Filter) → width p ≡ size
       → Sized before (length (walkBytes p ns h)) (walkCount ns h) m
-
--- no listing for a name, from at most n units, has more bytes
-pub record AtMost (n : ℕ) (name : List ℕ) (bytes : ℕ) : Type 0 where
-  pub is : (F : Forest ℕ) → unitsF F ≤ n → Plain (split name) → length (listBytes (split name) F) ≤ bytes

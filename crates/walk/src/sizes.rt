@@ -1,6 +1,6 @@
-// How many bytes and records a listing has, and how many bytes it has at most.
+// How many bytes and records a listing has.
 ghost use mathlib.Core.Path.{_≡_};
-ghost use Prim.Native.Nat.{_+_, _-_, _≤_, _<_, min};
+ghost use Prim.Native.Nat.{_+_, _-_, _≤_, min};
 ghost use lib.ListN.{length};
 ghost use Rattle.level.specs.Levels.{split};
 ghost use Rattle.level.specs.Places.{levelsAt};
@@ -8,7 +8,7 @@ ghost use Rattle.held.specs.Stream.{listBytes, listCount};
 ghost use Rattle.forest.specs.Places.{unitAt};
 ghost use Rattle.walk.specs.Nodes.{NodeIn, Listed, valuesIn};
 ghost use Rattle.walk.specs.Steps.{Steps, Sizing};
-ghost use Rattle.walk.specs.Sizes.{capped, nothing, Sized, RecordSized, HashSized, Sizes, AtMost};
+ghost use Rattle.walk.specs.Sizes.{capped, nothing, Sized, RecordSized, HashSized, Sizes};
 use crate::Measured;
 use crate::Node;
 use crate::nodes;
@@ -118,13 +118,4 @@ pub fn measure(s: &[u8], base: usize, n: usize, name: &[u8]) -> Measured
     let t = nodes::begin(s, base, n, name);
     let node = t.node;
     sizes(none, s, base, node, t.depth, name, t.from, t.from)
-}
-
-// How many bytes a listing from n units has at most: a record has a unit of its own, 6 bytes, and a text of at most twice the
-// name's bytes and 3; a value has 4 bytes.
-pub fn most_bytes(n: usize, name: &[u8]) -> usize
-    requires { ⌜ (n ≤ 65535) × (length (now name) ≤ 65535) ⌝ }
-    ensures { λ r. ⌜ AtMost n (now (name .entry)) r ⌝ }
-{
-    n * (2 * name.len() + 13)
 }
