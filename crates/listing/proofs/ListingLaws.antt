@@ -5,29 +5,31 @@ use Prim.Native.Nat.{ℕ, zero, suc, _+_, _-_, _*_, _≤_, _<_}
 use native.Mathlib.Omega.{arith}
 use lib.ListN.{length, take, drop, set, replicate, length-set, length-replicate}
 use lib.Seq.{take-take, take-set-le}
-use Rattle.lent.specs.Parts.{patch}
 use Rattle.level.specs.Levels.{split, width}
 use Rattle.level.specs.Places.{first, levelsAt, endOf}
 use Rattle.level.proofs.Split.{levels-cons, levels-none}
 use Rattle.held.specs.Order.{Level, Filter}
 use Rattle.held.specs.Forest.{hash, plus, kid}
-use Rattle.held.specs.Stream.{listBytes}
+use Rattle.held.specs.Stream.{listBytes, listCount}
 use Rattle.held.proofs.Equations.{walk-miss, walk-end, walk-on}
 use Rattle.walk.specs.declared.Node.{Node}
 use Rattle.walk.specs.declared.Step.{Step}
 use Rattle.walk.specs.declared.Start.{Start}
+use Rattle.walk.specs.declared.Measured.{Measured}
 use Rattle.walk.specs.declared.Node.the-variants.{At, Nothing}
 use Rattle.walk.specs.Height.{heightF}
 use Rattle.walk.specs.Nodes.{Listed, valuesIn}
 use Rattle.walk.specs.Steps.{NextLevel, StepTo}
 use Rattle.walk.specs.Starts.{Started}
+use Rattle.walk.specs.Sizes.{nothing}
 use Rattle.listing.specs.Trails.{taken, pathOf, pathAt, Trail}
-use Rattle.listing.specs.Written.{HashRoom, BelowWritten, EndWritten, Walked}
+use Rattle.listing.specs.Written.{Added, HashRoom, BelowWritten, EndWritten, Walked}
 use Rattle.walk.proofs.Heights.{kid-leaf}
 use Rattle.walk.proofs.NodeLaws.{opened, missed, kid-of}
 use Rattle.walk.proofs.Widths.{width-next}
+use Rattle.walk.proofs.SizeLaws.{count-miss, count-end, count-on}
 use Rattle.listing.proofs.Trails.{path-set, here, levels-next, more-levels}
-use Rattle.listing.proofs.RecordLaws.{wrote-none, wrote-then}
+use Rattle.listing.proofs.RecordLaws.{added-none, added-then}
 
 -- a trail
 pub trail-room : (name marks : List ℕ) (depth from size : ℕ) → Trail name marks depth from size → HashRoom size name marks depth
@@ -83,26 +85,28 @@ module _ (name marks : List ℕ) (depth from size stop : ℕ) (t : Trail name ma
     level-down l = path-down name kept depth from size stop 0 (trail-kept l) next more ∙ ap (λ (ms : List ℕ). pathOf ms (split name) ++ take (stop - from) (drop from name) ∷ []) same-marks
 
 -- the turns
-module _ (base : ℕ) (s name marks : List ℕ) (depth from : ℕ) (old : List ℕ) (at : ℕ) {n : Node} where
-  pub not-walked : n ≡ Nothing → at ≤ length old → Walked base s n name marks marks depth from old old at at
-  not-walked is l = record { within = l; same = refl; is = λ h i. rw (missed base s depth n h is i, walk-miss) (wrote-none old at) }
+module _ (base : ℕ) (s name marks : List ℕ) (depth from : ℕ) (old : List ℕ) (a : Measured) {n : Node} where
+  pub not-walked : n ≡ Nothing → a .bytes ≤ length old → a .records ≤ a .bytes → Walked base s n name marks marks depth from old old a a
+  not-walked is l f = record { within = l; few = f; same = refl; is = λ h i. rw (missed base s depth n h is i, walk-miss, count-miss) (added-none old a) }
 
   module _ (v e q : ℕ) (is : n ≡ At v e q) where
-    pub walked-end : length name < from → (new : List ℕ) (next : ℕ) → EndWritten base s v e q depth (pathAt marks depth name) old new at next → Walked base s n name marks marks depth from old new at next
-    walked-end end new next w =
+    pub walked-end : length name < from → (new : List ℕ) (b : Measured) → EndWritten base s v e q depth (pathAt marks depth name) old new a b → Walked base s n name marks marks depth from old new a b
+    walked-end end new b w =
         record {
           within = w .within;
+          few = w .few;
           same = refl;
           is = λ h i.
               let o = opened base s depth v e q n h is i in
-              rw (levels-none name from end, o .is, walk-end) (w .is (o .own) (o .kids) (o .holds));
+              rw (levels-none name from end, o .is, walk-end, count-end) (w .is (o .own) (o .kids) (o .holds));
         }
 
     -- no children are deeper than 128
-    pub walked-deep : from ≤ length name → 128 ≤ depth → at ≤ length old → Walked base s n name marks marks depth from old old at at
-    walked-deep more deep l =
+    pub walked-deep : from ≤ length name → 128 ≤ depth → a .bytes ≤ length old → a .records ≤ a .bytes → Walked base s n name marks marks depth from old old a a
+    walked-deep more deep l f =
         record {
           within = l;
+          few = f;
           same = refl;
           is = λ h i.
               let o = opened base s depth v e q n h is i in
@@ -110,22 +114,23 @@ module _ (base : ℕ) (s name marks : List ℕ) (depth from : ℕ) (old : List �
               let g : Level = first (drop from name) in
               let p : Filter = pathAt marks depth name in
               let ns : Filter = levelsAt name (suc (endOf name from)) in
-              rw (levels-cons name from more, o .is, walk-on, kid-leaf hash (o .kids) z, kid-leaf plus (o .kids) z, kid-leaf g (o .kids) z, walk-miss (p ++ plus ∷ []) ns, walk-miss (p ++ g ∷ []) ns) (wrote-none old at);
+              rw (levels-cons name from more, o .is, walk-on, count-on, kid-leaf hash (o .kids) z, kid-leaf plus (o .kids) z, kid-leaf g (o .kids) z, walk-miss (p ++ plus ∷ []) ns, walk-miss (p ++ g ∷ []) ns, count-miss ns) (added-none old a);
         }
 
     pub walked-on : (size : ℕ) → Trail name marks depth from size → depth < 128
-        → (o1 : List ℕ) (n1 : ℕ) → length o1 ≡ length old → BelowWritten base s e q depth (pathAt marks depth name) old o1 at n1
+        → (o1 : List ℕ) (b1 : Measured) → length o1 ≡ length old → BelowWritten base s e q depth (pathAt marks depth name) old o1 a b1
         → (t : Step) → StepTo base s depth e q name from t
-        → (m2 o2 : List ℕ) (n2 : ℕ) → length m2 ≡ 128 → length o2 ≡ length o1 → Walked base s (t .any) name (set marks depth 1) m2 (depth + 1) (t .stop + 1) o1 o2 n1 n2
-        → (m3 o3 : List ℕ) (n3 : ℕ) → Walked base s (t .own) name (set m2 depth 0) m3 (depth + 1) (t .stop + 1) o2 o3 n2 n3
-        → Walked base s n name marks m3 depth from old o3 at n3
-    walked-on size tr more o1 n1 l1 b t st m2 o2 n2 lm l2 w2 m3 o3 n3 w3 =
+        → (m2 o2 : List ℕ) (b2 : Measured) → length m2 ≡ 128 → length o2 ≡ length o1 → Walked base s (t .any) name (set marks depth 1) m2 (depth + 1) (t .stop + 1) o1 o2 b1 b2
+        → (m3 o3 : List ℕ) (b3 : Measured) → Walked base s (t .own) name (set m2 depth 0) m3 (depth + 1) (t .stop + 1) o2 o3 b2 b3
+        → Walked base s n name marks m3 depth from old o3 a b3
+    walked-on size tr more o1 b1 l1 b t st m2 o2 b2 lm l2 w2 m3 o3 b3 w3 =
         let g : Level = take (t .stop - from) (drop from name) in
         let p : Filter = pathAt marks depth name in
         let d2 : pathAt (set marks depth 1) (depth + 1) name ≡ p ++ plus ∷ [] = path-down name marks depth from size (t .stop) 1 tr (st .next) more in
         let d3 : pathAt (set m2 depth 0) (depth + 1) name ≡ p ++ g ∷ [] = level-down name marks depth from size (t .stop) tr (st .next) more m2 (w2 .same) lm in
         record {
           within = omega (arith, w3 .within, l2, l1);
+          few = w3 .few;
           same =
               sym (take-take depth (depth + 1) m3 (omega arith)) ∙ ap (take depth) (w3 .same) ∙ take-take depth (depth + 1) (set m2 depth 0) (omega arith)
               ∙ take-set-le depth m2 depth 0 (omega arith) ∙ same-marks name marks depth from size (t .stop) tr (st .next) more m2 (w2 .same);
@@ -133,8 +138,8 @@ module _ (base : ℕ) (s name marks : List ℕ) (depth from : ℕ) (old : List �
               let o = opened base s depth v e q n h is i in
               let y2 = rw d2 at (w2 .is (kid plus (o .kids)) (kid-of base s depth v e q h o plus (t .any) (st .any))) in
               let y3 = rw d3 at (w3 .is (kid g (o .kids)) (kid-of base s depth v e q h o g (t .own) (st .own))) in
-              rw (st .next .levels, o .is, walk-on)
-              (wrote-then old o1 o3 at _ _ n1 n3 l1 (b .is (o .kids) (o .holds .stands) (o .holds .shallow)) (wrote-then o1 o2 o3 n1 _ _ n2 n3 l2 y2 y3));
+              rw (st .next .levels, o .is, walk-on, count-on)
+              (added-then old o1 o3 a b1 b3 _ _ _ _ l1 (b .is (o .kids) (o .holds .stands) (o .holds .shallow)) (added-then o1 o2 o3 b1 b2 b3 _ _ _ _ l2 y2 y3));
         }
 
 -- from the start, without marks
@@ -162,10 +167,9 @@ module _ (base n : ℕ) (s name marks : List ℕ) {t : Start} (u : Started base 
         short = h;
       }
 
-  pub listed : (kept old new : List ℕ) (end : ℕ) → Walked base s (t .node) name marks kept (t .depth) (t .from) old new 0 end
-      → Listed base s n → length (listBytes (split name) (valuesIn base s n)) ≤ length old → new ≡ patch 0 (listBytes (split name) (valuesIn base s n)) old
-  listed kept old new end w l h =
+  pub listed : (kept old new : List ℕ) (end : Measured) → Walked base s (t .node) name marks kept (t .depth) (t .from) old new nothing end
+      → Listed base s n → Added old new nothing (listBytes (split name) (valuesIn base s n)) (listCount (split name) (valuesIn base s n)) end
+  listed kept old new end w l =
       let b = u .begun l in
       let z = rw path-start at (w .is (b .at) (b .at-is)) in
-      let k = rw (b .bytes-are) at h in
-      rw (b .bytes-are) (z .stored (omega (arith, k)))
+      rw (b .bytes-are, b .count-is) z

@@ -11,10 +11,11 @@ use Rattle.held.specs.Order.{Filter}
 use Rattle.held.specs.Ascending.{All}
 use Rattle.held.specs.Bytes.{each}
 use Rattle.held.specs.Forest.{Forest, Hit, hash, kid}
-use Rattle.held.specs.Stream.{recordAt, hashBytes, walkBytes}
+use Rattle.held.specs.Stream.{oneOf, recordAt, hashBytes, hashCount, walkBytes, walkCount}
 use Rattle.region.specs.Units.{valueBytes}
 use Rattle.forest.specs.Places.{unitAt}
 use Rattle.walk.specs.declared.Node.{Node}
+use Rattle.walk.specs.declared.Measured.{Measured}
 use Rattle.walk.specs.Height.{heightF}
 use Rattle.walk.specs.Nodes.{ValuesStand, NodeHolds, NodeIs}
 use Rattle.listing.specs.Trails.{pathAt, wholeText}
@@ -23,6 +24,11 @@ use Rattle.listing.specs.Trails.{pathAt, wholeText}
 pub record Wrote (old new : List ℕ) (at : ℕ) (ws : List ℕ) (next : ℕ) : Type 0 where
   pub stored : at + length ws ≤ length old → new ≡ patch at ws old
   pub place : at + length ws ≤ length old → next ≡ at + length ws
+
+-- so many records, which are these bytes, are written behind what was written before
+pub record Added (old new : List ℕ) (a : Measured) (bs : List ℕ) (count : ℕ) (b : Measured) : Type 0 where
+  pub wrote : Wrote old new (a .bytes) bs (b .bytes)
+  pub records-are : a .bytes + length bs ≤ length old → b .records ≡ a .records + count
 
 -- a level and the '/' after it
 pub record WroteLevel (old new : List ℕ) (at : ℕ) (l : List ℕ) (next : ℕ) : Type 0 where
@@ -58,27 +64,32 @@ pub record HashRoom (size : ℕ) (name marks : List ℕ) (depth : ℕ) : Type 0 
   pub size-is : width (pathAt marks depth name) ≡ size
 
 -- their record, under a filter whose text is the first bytes of a whole text
-pub record RecordWritten (base : ℕ) (s : List ℕ) (v e text : ℕ) (p : Filter) (old new : List ℕ) (at next : ℕ) : Type 0 where
-  pub within : next ≤ length old
-  pub is : (own : List ℕ) → Values base s v e own → (f : Filter) → join f ≡ take text (wholeText p) → length (join f) ≡ text → Wrote old new at (recordAt f own) next
+pub record RecordWritten (base : ℕ) (s : List ℕ) (v e text : ℕ) (p : Filter) (old new : List ℕ) (a b : Measured) : Type 0 where
+  pub within : b .bytes ≤ length old
+  pub few : b .records ≤ b .bytes
+  pub is : (own : List ℕ) → Values base s v e own → (f : Filter) → join f ≡ take text (wholeText p) → length (join f) ≡ text → Added old new a (recordAt f own) (oneOf own) b
 
 -- the record of a '#' below a path
-pub record HashWritten (base : ℕ) (s : List ℕ) (n : Node) (p : Filter) (old new : List ℕ) (at next : ℕ) : Type 0 where
-  pub within : next ≤ length old
-  pub is : (d : ℕ) (h : Hit ℕ) → NodeIs base s d n h → Wrote old new at (hashBytes p h) next
+pub record HashWritten (base : ℕ) (s : List ℕ) (n : Node) (p : Filter) (old new : List ℕ) (a b : Measured) : Type 0 where
+  pub within : b .bytes ≤ length old
+  pub few : b .records ≤ b .bytes
+  pub is : (d : ℕ) (h : Hit ℕ) → NodeIs base s d n h → Added old new a (hashBytes p h) (hashCount h) b
 
 -- the record of the '#' among the children of a node at a depth, which stand from lo up to hi
-pub record BelowWritten (base : ℕ) (s : List ℕ) (lo hi depth : ℕ) (p : Filter) (old new : List ℕ) (at next : ℕ) : Type 0 where
-  pub within : next ≤ length old
-  pub is : (F : Forest ℕ) → ValuesStand base s (depth + 1) lo hi F → depth + heightF F ≤ 128 → Wrote old new at (hashBytes p (kid hash F)) next
+pub record BelowWritten (base : ℕ) (s : List ℕ) (lo hi depth : ℕ) (p : Filter) (old new : List ℕ) (a b : Measured) : Type 0 where
+  pub within : b .bytes ≤ length old
+  pub few : b .records ≤ b .bytes
+  pub is : (F : Forest ℕ) → ValuesStand base s (depth + 1) lo hi F → depth + heightF F ≤ 128 → Added old new a (hashBytes p (kid hash F)) (hashCount (kid hash F)) b
 
 -- and before it the node's own
-pub record EndWritten (base : ℕ) (s : List ℕ) (v e q depth : ℕ) (p : Filter) (old new : List ℕ) (at next : ℕ) : Type 0 where
-  pub within : next ≤ length old
-  pub is : (own : List ℕ) (kids : Forest ℕ) → NodeHolds base s depth v e q own kids → Wrote old new at (recordAt p own ++ hashBytes p (kid hash kids)) next
+pub record EndWritten (base : ℕ) (s : List ℕ) (v e q depth : ℕ) (p : Filter) (old new : List ℕ) (a b : Measured) : Type 0 where
+  pub within : b .bytes ≤ length old
+  pub few : b .records ≤ b .bytes
+  pub is : (own : List ℕ) (kids : Forest ℕ) → NodeHolds base s depth v e q own kids → Added old new a (recordAt p own ++ hashBytes p (kid hash kids)) (oneOf own + hashCount (kid hash kids)) b
 
 -- a walk from a node at a depth, with the name's levels from a place on; it may change the marks that are deeper
-pub record Walked (base : ℕ) (s : List ℕ) (n : Node) (name marks kept : List ℕ) (depth from : ℕ) (old new : List ℕ) (at next : ℕ) : Type 0 where
-  pub within : next ≤ length old
+pub record Walked (base : ℕ) (s : List ℕ) (n : Node) (name marks kept : List ℕ) (depth from : ℕ) (old new : List ℕ) (a b : Measured) : Type 0 where
+  pub within : b .bytes ≤ length old
+  pub few : b .records ≤ b .bytes
   pub same : take depth kept ≡ take depth marks
-  pub is : (h : Hit ℕ) → NodeIs base s depth n h → Wrote old new at (walkBytes (pathAt marks depth name) (levelsAt name from) h) next
+  pub is : (h : Hit ℕ) → NodeIs base s depth n h → Added old new a (walkBytes (pathAt marks depth name) (levelsAt name from) h) (walkCount (levelsAt name from) h) b

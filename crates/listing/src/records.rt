@@ -14,6 +14,7 @@ ghost use Rattle.forest.specs.Places.{unitAt};
 ghost use Rattle.listing.specs.Trails.{taken, pathAt, wholeText};
 ghost use Rattle.walk.specs.Nodes.{NodeIn, Below};
 ghost use Rattle.listing.specs.Written.{WroteLevel, unitValues, RecordRoom, RecordWritten, HashRoom, HashWritten, BelowWritten, EndWritten};
+use walk::Measured;
 use walk::Node;
 
 // The level that was taken, and a '/'.
@@ -82,11 +83,11 @@ fn write_values(out: &mut [u8], at: usize, s: &[u8], base: usize, values: usize,
     write_units(out, at + 2, s, base, values, n);
 }
 
-// The record of the values in the units from `values` up to `end`, where there are any; its text is the first `text` bytes of
-// the path's text with '/#' behind it.
+// The record of the values in the units from `values` up to `end`, where there are any, behind what was written before; its text
+// is the first `text` bytes of the path's text with '/#' behind it.
 pub fn write_record(
     out: &mut [u8],
-    at: usize,
+    before: Measured,
     s: &[u8],
     base: usize,
     values: usize,
@@ -95,28 +96,32 @@ pub fn write_record(
     name: &[u8],
     marks: &[u8],
     depth: usize,
-) -> usize
-    requires { ⌜ RecordRoom base (now s) end text (now name) (now marks) depth × (at ≤ length (now out)) ⌝ }
-    ensures { λ r. ⌜ RecordWritten base (now (s .entry)) values end text (pathAt (now (marks .entry)) depth (now (name .entry))) (now (out .entry)) (now (out .exit)) at r ⌝ }
+) -> Measured
+    requires { ⌜ RecordRoom base (now s) end text (now name) (now marks) depth × (before .bytes ≤ length (now out)) × (before .records ≤ before .bytes) ⌝ }
+    ensures { λ r. ⌜ RecordWritten base (now (s .entry)) values end text (pathAt (now (marks .entry)) depth (now (name .entry))) (now (out .entry)) (now (out .exit)) before r ⌝ }
 {
     let n = walk::value_count(values, end);
     if n == 0 {
-        return at;
+        return before;
     }
+    let at = before.bytes;
     let size = 6 + text + 4 * n;
     if out.len() - at < size {
-        return at;
+        return before;
     }
     let after = at + 4 + text;
     write_head(out, at, text, name, marks, depth);
     write_values(out, after, s, base, values, n);
-    at + size
+    Measured {
+        bytes: at + size,
+        records: before.records + 1,
+    }
 }
 
 // The record of a '#' below a path, whose levels take `size` bytes.
 pub fn write_hash(
     out: &mut [u8],
-    at: usize,
+    before: Measured,
     s: &[u8],
     base: usize,
     node: Node,
@@ -124,9 +129,9 @@ pub fn write_hash(
     name: &[u8],
     marks: &[u8],
     depth: usize,
-) -> usize
-    requires { ⌜ NodeIn base (now s) node × HashRoom size (now name) (now marks) depth × (at ≤ length (now out)) ⌝ }
-    ensures { λ r. ⌜ HashWritten base (now (s .entry)) node (pathAt (now (marks .entry)) depth (now (name .entry))) (now (out .entry)) (now (out .exit)) at r ⌝ }
+) -> Measured
+    requires { ⌜ NodeIn base (now s) node × HashRoom size (now name) (now marks) depth × (before .bytes ≤ length (now out)) × (before .records ≤ before .bytes) ⌝ }
+    ensures { λ r. ⌜ HashWritten base (now (s .entry)) node (pathAt (now (marks .entry)) depth (now (name .entry))) (now (out .entry)) (now (out .exit)) before r ⌝ }
 {
     match node {
         Node::At {
@@ -134,10 +139,21 @@ pub fn write_hash(
             end,
             past: _,
         } => {
-            return write_record(out, at, s, base, values, end, size + 1, name, marks, depth);
+            return write_record(
+                out,
+                before,
+                s,
+                base,
+                values,
+                end,
+                size + 1,
+                name,
+                marks,
+                depth,
+            );
         }
         Node::Nothing => {
-            return at;
+            return before;
         }
     }
 }
@@ -145,7 +161,7 @@ pub fn write_hash(
 // The record of the '#' among the children of a node at a depth, which stand in the units from lo up to hi.
 pub fn write_below(
     out: &mut [u8],
-    at: usize,
+    before: Measured,
     s: &[u8],
     base: usize,
     lo: usize,
@@ -154,18 +170,18 @@ pub fn write_below(
     name: &[u8],
     marks: &[u8],
     depth: usize,
-) -> usize
-    requires { ⌜ Below base (now s) lo hi × HashRoom size (now name) (now marks) depth × (at ≤ length (now out)) ⌝ }
-    ensures { λ r. ⌜ BelowWritten base (now (s .entry)) lo hi depth (pathAt (now (marks .entry)) depth (now (name .entry))) (now (out .entry)) (now (out .exit)) at r ⌝ }
+) -> Measured
+    requires { ⌜ Below base (now s) lo hi × HashRoom size (now name) (now marks) depth × (before .bytes ≤ length (now out)) × (before .records ≤ before .bytes) ⌝ }
+    ensures { λ r. ⌜ BelowWritten base (now (s .entry)) lo hi depth (pathAt (now (marks .entry)) depth (now (name .entry))) (now (out .entry)) (now (out .exit)) before r ⌝ }
 {
     let all = walk::hash_child(s, base, lo, hi, depth);
-    write_hash(out, at, s, base, all, size, name, marks, depth)
+    write_hash(out, before, s, base, all, size, name, marks, depth)
 }
 
 // A node's own record, and then that of the '#' among its children.
 pub fn write_end(
     out: &mut [u8],
-    at: usize,
+    before: Measured,
     s: &[u8],
     base: usize,
     values: usize,
@@ -175,11 +191,11 @@ pub fn write_end(
     name: &[u8],
     marks: &[u8],
     depth: usize,
-) -> usize
-    requires { ⌜ Below base (now s) end past × HashRoom size (now name) (now marks) depth × (at ≤ length (now out)) ⌝ }
-    ensures { λ r. ⌜ EndWritten base (now (s .entry)) values end past depth (pathAt (now (marks .entry)) depth (now (name .entry))) (now (out .entry)) (now (out .exit)) at r ⌝ }
+) -> Measured
+    requires { ⌜ Below base (now s) end past × HashRoom size (now name) (now marks) depth × (before .bytes ≤ length (now out)) × (before .records ≤ before .bytes) ⌝ }
+    ensures { λ r. ⌜ EndWritten base (now (s .entry)) values end past depth (pathAt (now (marks .entry)) depth (now (name .entry))) (now (out .entry)) (now (out .exit)) before r ⌝ }
 {
     let text = walk::own_text(size);
-    let next = write_record(out, at, s, base, values, end, text, name, marks, depth);
-    write_below(out, next, s, base, end, past, size, name, marks, depth)
+    let with_own = write_record(out, before, s, base, values, end, text, name, marks, depth);
+    write_below(out, with_own, s, base, end, past, size, name, marks, depth)
 }

@@ -4,6 +4,7 @@ use mathlib.Core.Bool.{Bool, true, false, not}
 use mathlib.Core.List.{List, [], _∷_, _++_}
 use Prim.Native.Nat.{ℕ, _+_, _^_, _≤_, _<_}
 use native.Mathlib.Omega.{arith}
+use native.Mathlib.Nat.{le-trans}
 use lib.Dec.{ltb}
 use lib.ListN.{length}
 use Rattle.refusal.specs.declared.Refusal.{Refusal}
@@ -37,9 +38,11 @@ use Rattle.forest.specs.Stands.{Stands}
 use Rattle.forest.proofs.StandsLaws.{stands-read}
 use Rattle.walk.specs.declared.Measured.{Measured}
 use Rattle.walk.specs.Nodes.{Listed as Walked, valuesIn}
+use Rattle.walk.specs.Bounds.{AtMost}
 use Rattle.walk.specs.Sizes.{Sized, nothing}
 use Rattle.walk.proofs.HeldHeights.{Short, height-held}
 use Rattle.walk.proofs.Small.{Exact, measured}
+use Rattle.listing.specs.Written.{Added}
 use Rattle.change.proofs.HoldsLaws.{units-within, room-small}
 use Rattle.change.proofs.StoreLaws.{store-holds}
 use Rattle.audit.specs.Decides.{Decides}
@@ -105,6 +108,33 @@ module _ (s name : List ℕ) where
       give-none (SubscriptionStore s) (listingRules name (length out) (heldIn s)) list-answer out-bytes
       (λ (st : SubscriptionStore s). no-units-told values 1 s (forestAt valueOf s) (store-holds s st) h e) out (Refused NotAStore)
 
+  -- what is written, where it fits
+  module _ {base n room : ℕ} (units : UnitsOf s base n room) (fine : checked (nameRules name) ≡ Accepted) where
+    bytes-as : SubscriptionStore s → listBytes (split name) (valuesIn base s n) ≡ listingBytes (split name) (heldIn s)
+    bytes-as st = ap (listBytes (split name)) (values-are s units st) ∙ list-text name (ap accepted fine) (forestAt valueOf s) (st .well) .0
+
+    records-as : SubscriptionStore s → listCount (split name) (valuesIn base s n) ≡ length (listing (split name) (heldIn s))
+    records-as st = ap (listCount (split name)) (values-are s units st) ∙ list-text name (ap accepted fine) (forestAt valueOf s) (st .well) .1
+
+    list-written : (out after : List ℕ) (all : Measured) → (SubscriptionStore s → length (listBytes (split name) (valuesIn base s n)) ≤ length out)
+        → (Walked base s n → Added out after nothing (listBytes (split name) (valuesIn base s n)) (listCount (split name) (valuesIn base s n)) all)
+        → ListsKnown s name out after (Given (all .bytes) (all .records))
+    list-written out after all fits w =
+        give-all (SubscriptionStore s) (listingRules name (length out) (heldIn s)) list-answer out-bytes out after
+        (λ (st : SubscriptionStore s). buffer-fits (nameRules name) out-bytes out fine (bytes-is st) (omega (arith, place st, fits st))) (Given (all .bytes) (all .records))
+        (λ (st : SubscriptionStore s). rw (bytes-is st, records-is st))
+        (λ (st : SubscriptionStore s). rw (bytes-as st) at (w (walked s units st) .wrote .stored (omega (arith, fits st))))
+      where
+        place : SubscriptionStore s → all .bytes ≡ length (listBytes (split name) (valuesIn base s n))
+        place st = w (walked s units st) .wrote .place (omega (arith, fits st)) ∙ omega arith
+
+        bytes-is : SubscriptionStore s → all .bytes ≡ length (listingBytes (split name) (heldIn s))
+        bytes-is st = place st ∙ ap length (bytes-as st)
+
+        records-is : SubscriptionStore s → all .records ≡ length (listing (split name) (heldIn s))
+        records-is st = w (walked s units st) .records-are (omega (arith, fits st)) ∙ omega arith ∙ records-as st
+
+  -- what is measured
   module _ {base n room : ℕ} (units : UnitsOf s base n room) (fine : checked (nameRules name) ≡ Accepted) (size : length name ≤ 65535) {m : Measured}
       (sized : Walked base s n → Sized nothing (length (listBytes (split name) (valuesIn base s n))) (listCount (split name) (valuesIn base s n)) m) where
     module _ (st : SubscriptionStore s) where
@@ -114,14 +144,11 @@ module _ (s name : List ℕ) where
       exact : Exact (length (listBytes (split name) (valuesIn base s n))) (listCount (split name) (valuesIn base s n)) m
       exact = measured base n s name m (walked s units st) few size (name-plain name (ap accepted fine)) (sized (walked s units st))
 
-      bytes-as : listBytes (split name) (valuesIn base s n) ≡ listingBytes (split name) (heldIn s)
-      bytes-as = ap (listBytes (split name)) (values-are s units st) ∙ list-text name (ap accepted fine) (forestAt valueOf s) (st .well) .0
-
       bytes-is : m .bytes ≡ length (listingBytes (split name) (heldIn s))
-      bytes-is = exact .bytes-are ∙ ap length bytes-as
+      bytes-is = exact .bytes-are ∙ ap length (bytes-as units fine st)
 
       records-is : m .records ≡ length (listing (split name) (heldIn s))
-      records-is = exact .records-are ∙ ap (listCount (split name)) (values-are s units st) ∙ list-text name (ap accepted fine) (forestAt valueOf s) (st .well) .1
+      records-is = exact .records-are ∙ records-as units fine st
 
     pub list-short : (out : List ℕ) → length out < m .bytes → ListsKnown s name out out (Refused (ShortRoom (m .bytes)))
     list-short out h =
@@ -135,14 +162,18 @@ module _ (s name : List ℕ) where
         (λ (st : SubscriptionStore s). rw (bytes-is st, records-is st))
         (λ (st : SubscriptionStore s). sym (patch-empty out-bytes out (sym (bytes-is st) ∙ h)))
 
-    pub list-given : (out after : List ℕ) → m .bytes ≤ length out
-        → (Walked base s n → length (listBytes (split name) (valuesIn base s n)) ≤ length out → after ≡ patch 0 (listBytes (split name) (valuesIn base s n)) out)
-        → ListsKnown s name out after (Given (m .bytes) (m .records))
-    list-given out after h w =
-        give-all (SubscriptionStore s) (listingRules name (length out) (heldIn s)) list-answer out-bytes out after
-        (λ (st : SubscriptionStore s). buffer-fits (nameRules name) out-bytes out fine (bytes-is st) h) (Given (m .bytes) (m .records))
-        (λ (st : SubscriptionStore s). rw (bytes-is st, records-is st))
-        (λ (st : SubscriptionStore s). rw (bytes-as st) at (w (walked s units st) (omega (arith, exact st .bytes-are, h))))
+    pub list-given : (out after : List ℕ) → m .bytes ≤ length out → (all : Measured)
+        → (Walked base s n → Added out after nothing (listBytes (split name) (valuesIn base s n)) (listCount (split name) (valuesIn base s n)) all)
+        → ListsKnown s name out after (Given (all .bytes) (all .records))
+    list-given out after h all w = list-written units fine out after all (λ st. omega (arith, exact st .bytes-are, h)) w
+
+  -- without measuring, where every listing fits
+  pub list-at-once : {base n room : ℕ} → UnitsOf s base n room → checked (nameRules name) ≡ Accepted → (out after : List ℕ) {most : ℕ} → AtMost n name most → most ≤ length out
+      → (all : Measured) → (Walked base s n → Added out after nothing (listBytes (split name) (valuesIn base s n)) (listCount (split name) (valuesIn base s n)) all)
+      → ListsKnown s name out after (Given (all .bytes) (all .records))
+  list-at-once {base} {n} units fine out after bound h all w =
+      list-written units fine out after all
+      (λ st. le-trans (bound .is (valuesIn base s n) (omega (arith, walked s units st .stands .size)) (name-plain name (ap accepted fine))) h) w
 
 -- the name is tested before the walk
 module _ (s name : List ℕ) {k : Checked} (e : k ≡ checked (nameRules name)) where

@@ -63,7 +63,14 @@ pub fn is_match_known(region: &[u8], name: &[u8]) -> Matched
 
 // The listing into a buffer, in the units of a store and for a name that was accepted. It is measured before it is written; where
 // nothing matches, there is nothing to write.
-fn list_in(s: &[u8], base: usize, n: usize, room: usize, name: &[u8], out: &mut [u8]) -> Listed
+fn list_measured(
+    s: &[u8],
+    base: usize,
+    n: usize,
+    room: usize,
+    name: &[u8],
+    out: &mut [u8],
+) -> Listed
     requires { ⌜ UnitsOf (now s) base n room × (checked (nameRules (now name)) ≡ Accepted) × (length (now name) ≤ 65535) ⌝ }
     ensures { λ r. ⌜ ListsKnown (now (s .entry)) (now (name .entry)) (now (out .entry)) (now (out .exit)) r ⌝ }
 {
@@ -76,8 +83,31 @@ fn list_in(s: &[u8], base: usize, n: usize, room: usize, name: &[u8], out: &mut 
     if out.len() < bytes {
         return Listed::Refused(Refusal::ShortRoom { needed: bytes });
     }
-    listing::write_all(s, base, n, name, out);
-    Listed::Given { bytes, records }
+    let written = listing::write_all(s, base, n, name, out);
+    Listed::Given {
+        bytes: written.bytes,
+        records: written.records,
+    }
+}
+
+// The same. Where the buffer has room for every listing that so many units can hold for the name, it is not measured: that would
+// be a second walk.
+fn list_in(s: &[u8], base: usize, n: usize, room: usize, name: &[u8], out: &mut [u8]) -> Listed
+    requires { ⌜ UnitsOf (now s) base n room × (checked (nameRules (now name)) ≡ Accepted) × (length (now name) ≤ 65535) ⌝ }
+    ensures { λ r. ⌜ ListsKnown (now (s .entry)) (now (name .entry)) (now (out .entry)) (now (out .exit)) r ⌝ }
+{
+    if 65535 < n {
+        return list_measured(s, base, n, room, name, out);
+    }
+    let most = walk::most_bytes(n, name, out.len());
+    if out.len() < most {
+        return list_measured(s, base, n, room, name, out);
+    }
+    let all = listing::write_all(s, base, n, name, out);
+    Listed::Given {
+        bytes: all.bytes,
+        records: all.records,
+    }
 }
 
 // For a name that was accepted.

@@ -7,3 +7,4 @@ pub mod HitLaws
 pub mod Widths
 pub mod SizeLaws
 pub mod Small
+pub mod BoundLaws

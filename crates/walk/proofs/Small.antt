@@ -68,14 +68,14 @@ no-plus n e q = true≢false (rw (← q) at e)
 hash-no-plus : hash ≡ plus → ⊥
 hash-no-plus q = true≢false (ap (isOnly 35) q)
 
--- a record
-record-small : (p : Filter) (v : List ℕ) → length (join p) ≤ 131080 → length (recordAt p v) ≤ 131090 * length v
-record-small p [] h = omega arith
-record-small p (x ∷ v) h = omega (arith, length-record p (x ∷ v), h)
+-- a record, where its text and its 6 bytes are at most `most` bytes
+record-small : (most : ℕ) (p : Filter) (v : List ℕ) → 6 + length (join p) ≤ most → length (recordAt p v) ≤ most * oneOf v + 4 * length v
+record-small most p [] l = omega arith
+record-small most p (x ∷ v) l = omega (arith, length-record p (x ∷ v), l)
 
-hash-small : (p : Filter) (h : Hit ℕ) → width p + 1 ≤ 131080 → length (hashBytes p h) ≤ 131090 * unitsH h
-hash-small p miss l = omega arith
-hash-small p (hit v k) l = omega (arith, record-small (p ++ hash ∷ []) v (omega (arith, length-join-next p hash, l)))
+hash-small : (most : ℕ) (p : Filter) (h : Hit ℕ) → width p + 7 ≤ most → length (hashBytes p h) ≤ most * hashCount h + 4 * unitsH h
+hash-small most p miss l = omega arith
+hash-small most p (hit v k) l = omega (arith, record-small most (p ++ hash ∷ []) v (omega (arith, length-join-next p hash, l)))
 
 one-few : (v : List ℕ) → oneOf v ≤ length v
 one-few [] = omega arith
@@ -86,24 +86,24 @@ hash-few miss = omega arith
 hash-few (hit v k) = omega (arith, one-few v)
 
 -- a walk
-pub walk-small : (ns : Filter) → Plain ns → (p : Filter) → width p + 2 * width ns + 1 ≤ 131080 → (h : Hit ℕ) → length (walkBytes p ns h) ≤ 131090 * unitsH h
-walk-small [] q p l miss = rw walk-miss (omega arith)
-walk-small [] q p l (hit v k) =
-    rw (walk-end, length-append)
-    (omega (arith, record-small p v (omega (arith, length-join p, l)), hash-small p (kid hash k) (omega (arith, l)), one-kid hash k))
-walk-small (n ∷ ns) q p l miss = rw walk-miss (omega arith)
-walk-small (n ∷ ns) q p l (hit v k) =
+walk-small : (most : ℕ) (ns : Filter) → Plain ns → (p : Filter) → width p + 2 * width ns + 7 ≤ most → (h : Hit ℕ) → length (walkBytes p ns h) ≤ most * walkCount ns h + 4 * unitsH h
+walk-small most [] q p l miss = rw walk-miss (omega arith)
+walk-small most [] q p l (hit v k) =
+    rw (walk-end, count-end, length-append)
+    (omega (arith, record-small most p v (omega (arith, length-join p, l)), hash-small most p (kid hash k) (omega (arith, l)), one-kid hash k))
+walk-small most (n ∷ ns) q p l miss = rw walk-miss (omega arith)
+walk-small most (n ∷ ns) q p l (hit v k) =
     let t = three-kids hash plus n hash-no-plus (no-hash n (q .0)) (no-plus n (q .1)) k in
-    rw (walk-on, length-append, length-append)
+    rw (walk-on, count-on, length-append, length-append)
     (omega (
       arith,
       t,
-      hash-small p (kid hash k) (omega (arith, l)),
-      walk-small ns (q .2) (p ++ plus ∷ []) (omega (arith, l, width-next p plus)) (kid plus k),
-      walk-small ns (q .2) (p ++ n ∷ []) (omega (arith, l, width-next p n)) (kid n k),
+      hash-small most p (kid hash k) (omega (arith, l)),
+      walk-small most ns (q .2) (p ++ plus ∷ []) (omega (arith, l, width-next p plus)) (kid plus k),
+      walk-small most ns (q .2) (p ++ n ∷ []) (omega (arith, l, width-next p n)) (kid n k),
     ))
 
-pub walk-few : (ns : Filter) → Plain ns → (h : Hit ℕ) → walkCount ns h ≤ unitsH h
+walk-few : (ns : Filter) → Plain ns → (h : Hit ℕ) → walkCount ns h ≤ unitsH h
 walk-few [] q miss = rw count-miss (omega arith)
 walk-few [] q (hit v k) = rw count-end (omega (arith, one-few v, hash-few (kid hash k), one-kid hash k))
 walk-few (n ∷ ns) q miss = rw count-miss (omega arith)
@@ -112,16 +112,17 @@ walk-few (n ∷ ns) q (hit v k) =
     rw count-on (omega (arith, t, hash-few (kid hash k), walk-few ns (q .2) (kid plus k), walk-few ns (q .2) (kid n k)))
 
 -- a listing
-list-small : (ls : Filter) → Plain ls → 2 * width ls + 1 ≤ 131080 → (F : Forest ℕ) → length (listBytes ls F) ≤ 131090 * unitsF F
-unfolding listBytes literalBytes
-list-small ls q l F = go ls q l (leadDollar ls)
+pub list-small : (most : ℕ) (ls : Filter) → Plain ls → 2 * width ls + 7 ≤ most → (F : Forest ℕ) → length (listBytes ls F) ≤ most * listCount ls F + 4 * unitsF F
+unfolding listBytes literalBytes listCount literalCount
+list-small most ls q l F = go ls q l (leadDollar ls)
   where
-    go : (ls : Filter) → Plain ls → 2 * width ls + 1 ≤ 131080 → (t : Bool) → length (cond t (literalBytes ls F) (walkBytes [] ls (hit [] F))) ≤ 131090 * unitsF F
+    go : (ls : Filter) → Plain ls → 2 * width ls + 7 ≤ most → (t : Bool)
+        → length (cond t (literalBytes ls F) (walkBytes [] ls (hit [] F))) ≤ most * cond t (literalCount ls F) (walkCount ls (hit [] F)) + 4 * unitsF F
     go [] q l true = omega arith
-    go (g ∷ gs) q l true = omega (arith, walk-small gs (q .2) (g ∷ []) (omega (arith, l)) (kid g F), one-kid g F)
-    go ls q l false = omega (arith, walk-small ls q [] (omega (arith, l)) (hit [] F))
+    go (g ∷ gs) q l true = omega (arith, walk-small most gs (q .2) (g ∷ []) (omega (arith, l)) (kid g F), one-kid g F)
+    go ls q l false = omega (arith, walk-small most ls q [] (omega (arith, l)) (hit [] F))
 
-list-few : (ls : Filter) → Plain ls → (F : Forest ℕ) → listCount ls F ≤ unitsF F
+pub list-few : (ls : Filter) → Plain ls → (F : Forest ℕ) → listCount ls F ≤ unitsF F
 unfolding listCount literalCount
 list-few ls q F = go ls q (leadDollar ls)
   where
@@ -129,6 +130,11 @@ list-few ls q F = go ls q (leadDollar ls)
     go [] q true = omega arith
     go (g ∷ gs) q true = omega (arith, walk-few gs (q .2) (kid g F), one-kid g F)
     go ls q false = omega (arith, walk-few ls q (hit [] F))
+
+pub name-width : (name : List ℕ) → width (split name) ≤ length name + 1
+name-width name =
+    let w : length name ≡ width (split name) - 1 = sym (ap length (join-split name)) ∙ length-join (split name) in
+    omega (arith, w)
 
 -- so it is measured as it is
 pub record Exact (bytes records : ℕ) (m : Measured) : Type 0 where
@@ -140,10 +146,9 @@ pub measured : (base n : ℕ) (s name : List ℕ) (m : Measured) → Listed base
     → Exact (length (listBytes (split name) (valuesIn base s n))) (listCount (split name) (valuesIn base s n)) m
 measured base n s name m l few short q z =
     let F : Forest ℕ = valuesIn base s n in
-    let w : length name ≡ width (split name) - 1 = sym (ap length (join-split name)) ∙ length-join (split name) in
-    let a = list-small (split name) q (omega (arith, w, short)) F in
+    let a = list-small 131086 (split name) q (omega (arith, name-width name, short)) F in
     let b = list-few (split name) q F in
     record {
-      bytes-are = z .bytes-are (omega (arith, a, l .stands .size, few)) ∙ omega arith;
+      bytes-are = z .bytes-are (omega (arith, a, b, l .stands .size, few)) ∙ omega arith;
       records-are = z .records-are (omega (arith, b, l .stands .size, few)) ∙ omega arith;
     }

@@ -4,3 +4,4 @@ pub mod Steps
 pub mod Starts
 pub mod Hits
 pub mod Sizes
+pub mod Bounds

@@ -4,8 +4,8 @@ use Rattle.listing.proofs.RecordLaws.{record-empty, record-short, recor
 use Rattle.listing.proofs.records.write_record.Statement.{statement}
 use Rattle.listing.proofs.records.write_record.Tie as tie
 
-count-requires : tie.Need-value-count-requires
-count-requires c κs = search needs
+value-count-requires : tie.Need-value-count-requires
+value-count-requires c κs = search needs
 
 returns : tie.Need-returns
 returns c = search (needs, record-empty)
@@ -37,8 +37,11 @@ write-head-requires c κs = search needs
 write-values-requires : tie.Need-write-values-requires
 write-values-requires c κs = search needs
 
-add-result : tie.Need-add-result
-add-result c = search needs
+add-t17 : tie.Need-add-t17
+add-t17 c = search needs
+
+add-t16 : tie.Need-add-t16
+add-t16 c = search needs
 
 same-length : tie.Need-same-length
 same-length c = search needs
@@ -50,7 +53,7 @@ pub write-record-spec : {M : Type 1} → statement M
 write-record-spec =
     tie.close
     (tie.spec
-    count-requires
+    value-count-requires
     returns
     add-size
     mul-size
@@ -61,6 +64,7 @@ write-record-spec =
     add-after-2
     write-head-requires
     write-values-requires
-    add-result
+    add-t17
+    add-t16
     same-length
     returns-3)

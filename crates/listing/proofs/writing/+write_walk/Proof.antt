@@ -41,7 +41,7 @@ write-walk-returns : (t : ℕ) → write-walk-lts.Need-returns (write-walk-claim
 write-walk-returns t c = search (needs, not-walked)
 
 write-walk-write-end-requires : (t : ℕ) → write-walk-lts.Need-write-end-requires (write-walk-claims t) (write-walk-at t) write-walk.Post
-write-walk-write-end-requires t c κs = (search (needs, node-below), search (needs, trail-room), search needs)
+write-walk-write-end-requires t c κs = (search (needs, node-below), search (needs, trail-room), search needs, search needs)
 
 write-walk-same-length : (t : ℕ) → write-walk-lts.Need-same-length (write-walk-claims t) (write-walk-at t) write-walk.Post
 write-walk-same-length t c = search needs
@@ -56,7 +56,7 @@ write-walk-returns-3 : (t : ℕ) → write-walk-lts.Need-returns-3 (write-walk-c
 write-walk-returns-3 t c = search (needs, walked-deep)
 
 write-walk-write-below-requires : (t : ℕ) → write-walk-lts.Need-write-below-requires (write-walk-claims t) (write-walk-at t) write-walk.Post
-write-walk-write-below-requires t c κs = (search (needs, node-below), search (needs, trail-room), search needs)
+write-walk-write-below-requires t c κs = (search (needs, node-below), search (needs, trail-room), search needs, search needs)
 
 write-walk-step-requires : (t : ℕ) → write-walk-lts.Need-go-on-requires (write-walk-claims t) (write-walk-at t) write-walk.Post
 write-walk-step-requires t c κs = search (needs, node-below)
@@ -65,25 +65,45 @@ write-walk-add-below : (t : ℕ) → write-walk-lts.Need-add-below (write-walk-c
 write-walk-add-below t c = search needs
 
 write-walk-add-beyond : (t : ℕ) → write-walk-lts.Need-add-beyond (write-walk-claims t) (write-walk-at t) write-walk.Post
-write-walk-add-beyond t c = search needs
+write-walk-add-beyond t c =
+    let p = c .before .before .before .before .before .before .before .before .before .before .before .before .before .before .before .pre in
+    let u = c .go-on .ensures in
+    record { fits = omega (arith, p .1 .1 .short, u .next .within) }
 
 write-walk-add-wide : (t : ℕ) → write-walk-lts.Need-add-wide (write-walk-claims t) (write-walk-at t) write-walk.Post
-write-walk-add-wide t c = search needs
+write-walk-add-wide t c =
+    let p = c .before .before .before .before .before .before .before .before .before .before .before .before .before .before .before .pre in
+    record { fits = omega (arith, p .1 .1 .small, p .1 .1 .high, p .1 .1 .short) }
 
 write-walk-sub-long : (t : ℕ) → write-walk-lts.Need-sub-long (write-walk-claims t) (write-walk-at t) write-walk.Post
 write-walk-sub-long t c = search needs
 
 write-walk-add-long : (t : ℕ) → write-walk-lts.Need-add-long (write-walk-claims t) (write-walk-at t) write-walk.Post
-write-walk-add-long t c = search needs
+write-walk-add-long t c =
+    let p = c .before .before .before .before .before .before .before .before .before .before .before .before .before .before .before .pre in
+    let u = c .go-on .ensures in
+    record { fits = omega (arith, p .1 .1 .small, p .1 .1 .high, p .1 .1 .short, u .next .within) }
 
 write-walk-add-long-2 : (t : ℕ) → write-walk-lts.Need-add-long-2 (write-walk-claims t) (write-walk-at t) write-walk.Post
-write-walk-add-long-2 t c = search needs
+write-walk-add-long-2 t c =
+    let p = c .before .before .before .before .before .before .before .before .before .before .before .before .before .before .before .pre in
+    let u = c .go-on .ensures in
+    record { fits = omega (arith, p .1 .1 .small, p .1 .1 .high, p .1 .1 .short, u .next .within) }
 
 write-walk-slice-write-marks : (t : ℕ) → write-walk-lts.Need-slice-write-marks (write-walk-claims t) (write-walk-at t) write-walk.Post
-write-walk-slice-write-marks t c = search needs
+write-walk-slice-write-marks t c =
+    let p = c .before .before .before .before .before .before .before .before .before .before .before .before .before .before .before .pre in
+    let i = c .before .before .before .before .before .before .if2 .left in
+    omega (arith, p .1 .1 .marked, i)
 
 write-walk-write-walk-requires : (t : ℕ) → write-walk-lts.Need-write-walk-requires (write-walk-claims t) (write-walk-at t) write-walk.Post
-write-walk-write-walk-requires t c κs = (search needs, (search needs, search (needs, trail-plus), search needs))
+write-walk-write-walk-requires t c κs =
+    let stepped = c .before .before in
+    let tested = stepped .before .before .before .before .before .before in
+    let p = tested .before .before .before .before .before .before .before .before .before .pre in
+    let i = tested .if2 .left in
+    let u = stepped .go-on .ensures in
+    (search needs, (search needs, trail-plus _ _ _ _ _ _ (p .1 .1) (u .next) i, search needs, search needs))
 
 write-walk-slice-write-marks-2 : (t : ℕ) → write-walk-lts.Need-slice-write-marks-2 (write-walk-claims t) (write-walk-at t) write-walk.Post
 write-walk-slice-write-marks-2 t c =
@@ -106,7 +126,7 @@ write-walk-write-walk-requires-2 t c κs =
     let u = stepped .go-on .ensures in
     let w = walked .write-walk .ensures in
     let m = c .before .before .before .before .before .marks .given ∙ trail-plus _ _ _ _ _ _ (p .1 .1) (u .next) i .marked in
-    (omega (arith, p .0, u .next .on, u .next .within), (u .own .inside, trail-level _ _ _ _ _ _ (p .1 .1) (u .next) i _ (w .same) m, omega (arith, w .within, c .before .before .before .out3 .given)))
+    (omega (arith, p .0, u .next .on, u .next .within), (u .own .inside, trail-level _ _ _ _ _ _ (p .1 .1) (u .next) i _ (w .same) m, omega (arith, w .within, c .before .before .before .out3 .given), w .few))
 
 write-walk-same-length-3 : (t : ℕ) → write-walk-lts.Need-same-length-3 (write-walk-claims t) (write-walk-at t) write-walk.Post
 write-walk-same-length-3 t c =

@@ -11,7 +11,7 @@ slice-aggregate-write-walk : tie.Need-slice-aggregate-write-walk
 slice-aggregate-write-walk c = search needs
 
 write-walk-requires : tie.Need-write-walk-requires
-write-walk-requires c κs = (search needs, search (needs, trail-start), search needs)
+write-walk-requires c κs = (search needs, search (needs, trail-start), search needs, search needs)
 
 same-length : tie.Need-same-length
 same-length c = search needs
