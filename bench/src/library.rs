@@ -1,5 +1,5 @@
-//! A store of subscriptions of the library, through its C interface: with the calls that test the region, or with
-//! those that take it for a store.
+//! A store of subscriptions of the library, through its C interface: with the calls that test the
+//! region, or with those that take it for a store.
 
 use crate::read::{Read, Record};
 

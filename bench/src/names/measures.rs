@@ -31,8 +31,6 @@ pub struct Times {
 
 pub struct Measured {
     pub nodes: u64,
-    /// The test of the region.
-    pub test: f64,
     /// By the forms of a filter: the records that a lookup gives, on average, and its times.
     pub lookups: [(f64, Times); 3],
     /// At the beginning and in the middle.
@@ -41,7 +39,28 @@ pub struct Measured {
     pub erase: Times,
     pub replace: Times,
     /// Where all, half and none have expired.
-    pub sweeps: [Times; 3],
+    pub sweeps: [Swept; 3],
+}
+
+/// A sweep, and beside it the test of the full region.
+pub struct Swept {
+    pub times: Times,
+    pub test: f64,
+}
+
+impl Swept {
+    /// How many tests of the region a sweep of a known store takes.
+    pub fn in_tests(&self) -> f64 {
+        self.times.known / self.test
+    }
+}
+
+impl Measured {
+    /// The test of the region, where it was least disturbed.
+    pub fn test(&self) -> f64 {
+        let tests = self.sweeps.iter().map(|swept| swept.test);
+        tests.fold(f64::INFINITY, f64::min)
+    }
 }
 
 /// A workload's names as each side takes them; and both stores, filled.
@@ -65,7 +84,6 @@ pub fn measured(effort: &Effort, workload: &Workload, full: &Library, rust: &Rus
     let lookup = |form: usize| sides.lookup(&workload.filters[form]);
     Measured {
         nodes: rust.nodes(),
-        test: sides.test(),
         lookups: [lookup(0), lookup(1), lookup(2)],
         pages: offsets(workload.names.len()).map(|offset| sides.page(offset)),
         set: sides.set(changed),
@@ -184,9 +202,9 @@ impl Sides<'_> {
         times(self.rounds, three)
     }
 
-    /// Each from a full store.
-    fn sweep(&self, clock: u64) -> Times {
-        let three = [
+    /// Each from a full store. The call that tells the count is the test of the region and one read.
+    fn sweep(&self, clock: u64) -> Swept {
+        let mut four = [
             each_restored(self.full, move |library| library.sweep(KNOWN, clock)),
             each_restored(self.full, move |library| library.sweep(TESTED, clock)),
             Timed::part(SWEEPS, || {
@@ -199,17 +217,17 @@ impl Sides<'_> {
                 }
                 took
             }),
+            each_restored(self.full, |library| library.count()),
         ];
-        times(self.rounds, three)
-    }
-
-    /// The call that tells the count is the test of the region and one read. It is timed as a sweep
-    /// is, so that the two may be compared.
-    fn test(&self) -> f64 {
-        medians(
-            self.rounds,
-            &mut [each_restored(self.full, |library| library.count())],
-        )[0]
+        let [known, tested, rust, test] = medians(self.rounds, &mut four)[..] else {
+            panic!("four were timed");
+        };
+        let times = Times {
+            known,
+            tested,
+            rust,
+        };
+        Swept { times, test }
     }
 }
 

@@ -58,8 +58,8 @@ fn held(rows: &[Row]) {
             &[
                 workload.names.len().to_string(),
                 measured.nodes.to_string(),
-                ns(measured.test),
-                format!("{:.1}", measured.test / measured.nodes as f64),
+                ns(measured.test()),
+                format!("{:.1}", measured.test() / measured.nodes as f64),
             ],
         );
     }
@@ -117,9 +117,9 @@ fn replaced(rows: &[Row]) {
 fn swept(rows: &[Row], sweep: usize, what: &str) {
     head_with(&format!("sweep, {what} expired"), "in tests");
     for (workload, measured) in rows {
-        let times = &measured.sweeps[sweep];
-        let mut cells = cells(times);
-        cells.push(ratio(times.known, measured.test));
+        let swept = &measured.sweeps[sweep];
+        let mut cells = cells(&swept.times);
+        cells.push(format!("{:.2}", swept.in_tests()));
         line(workload.name, &cells);
     }
 }
@@ -150,11 +150,11 @@ fn budgets(rows: &[Row]) {
     budget(
         &format!("sweep, known store, at most {SWEEP} tests of the region"),
         &met(rows, |m| {
-            m.sweeps.iter().all(|times| times.known <= SWEEP * m.test)
+            m.sweeps.iter().all(|swept| swept.in_tests() <= SWEEP)
         }),
     );
     budget(
         &format!("the test of a region of names, at most {TEST} ns for each node"),
-        &met(rows, |m| m.test <= TEST * m.nodes as f64),
+        &met(rows, |m| m.test() <= TEST * m.nodes as f64),
     );
 }
