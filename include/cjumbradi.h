@@ -117,6 +117,35 @@ uint64_t cjumbradi_is_match(const uint8_t *region, size_t region_len, const uint
 uint64_t cjumbradi_listing(const uint8_t *region, size_t region_len, const uint8_t *name, size_t name_len,
                            uint8_t *out, size_t out_len, uint64_t *bytes, uint64_t *records);
 
+/* Set the record of a name in a store of retained names: a handle, and a moment in milliseconds of the
+ * caller's clock at which it expires; `expires` 0 stands for none, and the moment is not read then. The
+ * payload is given by its length. 1 if the name is new, 2 if its record was replaced, also where that
+ * had expired. A payload of length 0 erases: 3 if the name was held, 4 if not. Refuses 11, then a fault
+ * of the name (1 to 5), then where nothing is erased 12, 13, 14, 15, as an insertion does. */
+uint64_t cjumbradi_set(uint8_t *region, size_t region_len, const uint8_t *name, size_t name_len,
+                       uint64_t payload, uint32_t handle, uint64_t expires, uint64_t moment,
+                       uint64_t *answer);
+
+/* The lookup of a filter: each held name that it takes and that has not expired when the clock shows
+ * `clock`, which is when its moment is greater. Names come by their levels, levels by their bytes, a
+ * shorter beginning first, a parent before its children. A record is the bytes 52 56, the length of the
+ * name (2 bytes), the name, its handle (4 bytes) and the milliseconds that are left (8 bytes), 0 for no
+ * moment; all numbers high byte first. Hands back how many bytes and records there are, and refuses 11,
+ * then a fault of the filter (1 to 4, 6, 7), then 16, as a listing does. */
+uint64_t cjumbradi_lookup(const uint8_t *region, size_t region_len, const uint8_t *filter,
+                          size_t filter_len, uint64_t clock, uint8_t *out, size_t out_len,
+                          uint64_t *bytes, uint64_t *records);
+
+/* A page: of the lookup of '#', `offset` records are skipped and at most `limit` given. Names that begin
+ * with '$' are on no page. Hands back also whether more follows: 1 or 0. Refuses 11, then 16. */
+uint64_t cjumbradi_page(const uint8_t *region, size_t region_len, uint64_t clock, uint64_t offset,
+                        uint64_t limit, uint8_t *out, size_t out_len, uint64_t *bytes,
+                        uint64_t *records, uint64_t *more);
+
+/* Remove every record that has expired when the clock shows `clock`, and hand back how many went.
+ * Refuses 11. */
+uint64_t cjumbradi_sweep(uint8_t *region, size_t region_len, uint64_t clock, uint64_t *removed);
+
 /* How many nodes, and how many pairs of a filter and a value, a store of subscriptions has; how many
  * names a store of retained names has. The region is only read. Refuse 11. */
 uint64_t cjumbradi_nodes_size(const uint8_t *region, size_t region_len, uint64_t *nodes);
