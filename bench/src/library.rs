@@ -1,5 +1,5 @@
-//! A store of the library, through its C interface: with the calls that test the region, or with
-//! those that take it for a store.
+//! A store of subscriptions of the library, through its C interface: with the calls that test the
+//! region, or with those that take it for a store.
 
 use crate::read::{Read, Record};
 
@@ -76,7 +76,7 @@ extern "C" {
 }
 
 /// The largest capacities: a store is measured with all the room that there is.
-const MOST: [u64; 3] = [4_096, 8_192, 8_192];
+pub const MOST: [u64; 3] = [4_096, 8_192, 8_192];
 
 /// The four calls in one of their two forms.
 #[derive(Clone, Copy)]
@@ -104,9 +104,18 @@ pub const KNOWN: Calls = Calls {
 };
 
 /// No call of a benchmark is refused.
-fn accepted(number: u64, value: u64) -> u64 {
+pub fn accepted(number: u64, value: u64) -> u64 {
     assert_eq!(number, 0, "a call was refused");
     value
+}
+
+/// The bytes of a region for the largest capacities.
+pub fn needed() -> usize {
+    let [nodes, pairs, cells] = MOST;
+    let mut bytes = 0;
+    // SAFETY: `bytes` outlives the call.
+    let number = unsafe { cjumbradi_needed(nodes, pairs, cells, &mut bytes) };
+    accepted(number, bytes) as usize
 }
 
 /// A store and the buffer for its listings.
@@ -118,13 +127,8 @@ pub struct Library {
 impl Library {
     /// An empty store.
     pub fn new() -> Self {
-        let [nodes, pairs, cells] = MOST;
-        let mut bytes = 0;
-        // SAFETY: `bytes` outlives the call.
-        let number = unsafe { cjumbradi_needed(nodes, pairs, cells, &mut bytes) };
-        let needed = accepted(number, bytes) as usize;
         let mut library = Library {
-            region: vec![0; needed],
+            region: vec![0; needed()],
             out: vec![0; 1 << 20],
         };
         library.empty();

@@ -4,7 +4,9 @@
 
 mod agree;
 mod library;
+mod lines;
 mod measures;
+mod names;
 mod random;
 mod read;
 mod rust;
@@ -47,4 +49,5 @@ fn main() {
         rows.push((workload, measured));
     }
     table::print(&rows);
+    names::run(&effort);
 }

@@ -55,7 +55,7 @@ impl Rust {
     pub fn records(&self, name: &str) -> Vec<Record> {
         let name = parsed(name);
         let record = |(path, values): (Vec<&_>, Vec<&u32>)| {
-            let filter = path.to_topic_filter().into_bytes();
+            let filter = path.to_topic_filter().as_bytes().to_vec();
             (filter, values.into_iter().copied().collect())
         };
         self.0.matches(&name).iter().map(record).collect()

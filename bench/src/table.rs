@@ -1,7 +1,9 @@
-//! The tables: times in ns for each call, and ratios ours / Rust. No time fails a run.
+//! The tables of subscriptions: times in ns for each call, and ratios ours / Rust. No time fails a
+//! run.
 
 use std::{env, fs, thread};
 
+use crate::lines::{budget, head, line, ns, ratio};
 use crate::measures::{Asked, Measured};
 use crate::workloads::Workload;
 
@@ -9,9 +11,9 @@ type Row = (Workload, Measured);
 
 /// What a listing may take at most of the Rust's time, what a change may, and what the test of a
 /// region may take for each node, in ns.
-const LISTING: f64 = 0.7;
-const CHANGE: f64 = 2.0;
-const TEST: f64 = 15.0;
+pub const LISTING: f64 = 0.7;
+pub const CHANGE: f64 = 2.0;
+pub const TEST: f64 = 15.0;
 
 /// The processor and its cores.
 pub fn machine() -> String {
@@ -39,27 +41,6 @@ pub fn print(rows: &[Row]) {
     asked("is_match", rows, |measured| &measured.is_match);
     changed(rows);
     budgets(rows);
-}
-
-fn line(name: &str, cells: &[String]) {
-    let cells: Vec<String> = cells.iter().map(|cell| format!("{cell:>13}")).collect();
-    println!("{name:<27}{}", cells.concat());
-}
-
-fn head(name: &str, cells: &[&str]) {
-    println!();
-    line(
-        name,
-        &cells.iter().map(ToString::to_string).collect::<Vec<_>>(),
-    );
-}
-
-fn ns(time: f64) -> String {
-    format!("{time:.0}")
-}
-
-fn ratio(ours: f64, rust: f64) -> String {
-    format!("{:.2}", ours / rust)
 }
 
 fn held(rows: &[Row]) {
@@ -149,37 +130,27 @@ fn changed(rows: &[Row]) {
     }
 }
 
-/// A budget, and the workloads that miss it.
-fn budget(what: &str, rows: &[Row], is_met: impl Fn(&Measured) -> bool) {
-    let missed: Vec<&str> = rows
-        .iter()
-        .filter(|(_, measured)| !is_met(measured))
-        .map(|(workload, _)| workload.name)
-        .collect();
-    match missed.is_empty() {
-        true => println!("{what}: met"),
-        false => println!("{what}: missed on {}", missed.join("; ")),
-    }
+/// The workloads by name, and whether each meets a budget.
+fn met(rows: &[Row], is_met: impl Fn(&Measured) -> bool) -> Vec<(&'static str, bool)> {
+    let one = |(workload, measured): &Row| (workload.name, is_met(measured));
+    rows.iter().map(one).collect()
 }
 
 fn budgets(rows: &[Row]) {
     println!();
     budget(
         &format!("listing, known store, at most {LISTING} of the Rust"),
-        rows,
-        |m| m.listing.known <= LISTING * m.listing.rust,
+        &met(rows, |m| m.listing.known <= LISTING * m.listing.rust),
     );
     budget(
         &format!("insert + remove, known store, at most {CHANGE} of the Rust"),
-        rows,
-        |m| {
+        &met(rows, |m| {
             let c = &m.changed;
             c.insert + c.remove <= CHANGE * (c.rust_insert + c.rust_remove)
-        },
+        }),
     );
     budget(
         &format!("the test of a region, at most {TEST} ns for each node"),
-        rows,
-        |m| m.test <= TEST,
+        &met(rows, |m| m.test <= TEST),
     );
 }

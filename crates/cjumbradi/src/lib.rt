@@ -6,7 +6,9 @@ mod subscriptions;
 mod telling;
 mod texts;
 
-// How an answer is told, for crates that offer the same calls in another form.
+// How a moment is given and an answer is told, for crates that offer the same calls in another form.
+pub use retained::moment_given;
 pub use telling::tell_changed;
 pub use telling::tell_listed;
 pub use telling::tell_matched;
+pub use telling::tell_paged;

@@ -17,7 +17,7 @@ use crate::telling::tell_paged;
 use retain::Moment;
 
 // A moment as a caller gives it.
-fn moment_given(expires: u64, moment: u64) -> Moment
+pub fn moment_given(expires: u64, moment: u64) -> Moment
     ensures { λ m. ⌜ m ≡ momentGiven expires moment ⌝ }
 {
     if expires == 0 {
