@@ -38,8 +38,8 @@ fn offsets(count: usize) -> [u64; 2] {
 pub fn run(effort: &Effort) {
     let mut rows = Vec::new();
     for workload in workloads::all(effort.names) {
-        let (mut library, rust) = agree::filled(&workload);
-        let measured = measures::measured(effort, &workload, &mut library, &rust);
+        let (library, rust) = agree::filled(&workload);
+        let measured = measures::measured(effort, &workload, &library, &rust);
         rows.push((workload, measured));
     }
     table::print(&rows);
