@@ -1,6 +1,8 @@
 //! The library under test, through its C interface.
 
 use crate::answers::{Answer, LevelAnswers, Part, Refusal, TopicCalls};
+use crate::counts::{count, Called};
+use crate::lent::Lent;
 
 /// A call with one text and one number handed back.
 type TextCall = unsafe extern "C" fn(*const u8, usize, *mut u64) -> u64;
@@ -50,7 +52,9 @@ pub fn answer<T>(number: u64, value: T, place: u64) -> Answer<T> {
     }
 }
 
-fn ask(call: TextCall, text: &[u8]) -> Answer {
+fn ask(called: Called, call: TextCall, text: &[u8]) -> Answer {
+    count(called);
+    let text = Lent::new(text);
     let mut value = UNWRITTEN;
     // SAFETY: the pointer and the length are those of a slice, and `value` outlives the call.
     let number = unsafe { call(text.as_ptr(), text.len(), &mut value) };
@@ -59,12 +63,15 @@ fn ask(call: TextCall, text: &[u8]) -> Answer {
 
 impl TopicCalls for Library {
     fn parse(&self, text: &[u8]) -> Answer {
-        ask(cjumbradi_parse, text)
+        ask(Called::Parse, cjumbradi_parse, text)
     }
 
     fn level(&self, text: &[u8], k: u64) -> LevelAnswers {
+        let text = Lent::new(text);
         let (at, len) = (text.as_ptr(), text.len());
         let (mut kind, mut start, mut length) = (UNWRITTEN, UNWRITTEN, UNWRITTEN);
+        count(Called::LevelKind);
+        count(Called::LevelPart);
         // SAFETY: as in `ask`, with more numbers, each its own variable.
         let of_kind = unsafe { cjumbradi_level_kind(at, len, k, &mut kind) };
         let of_part = unsafe { cjumbradi_level_part(at, len, k, &mut start, &mut length) };
@@ -76,30 +83,56 @@ impl TopicCalls for Library {
     }
 
     fn is_valid_topic_name(&self, text: &[u8]) -> Answer {
-        ask(cjumbradi_is_valid_topic_name, text)
+        ask(
+            Called::IsValidTopicName,
+            cjumbradi_is_valid_topic_name,
+            text,
+        )
     }
 
     fn is_valid_topic_filter(&self, text: &[u8]) -> Answer {
-        ask(cjumbradi_is_valid_topic_filter, text)
+        ask(
+            Called::IsValidTopicFilter,
+            cjumbradi_is_valid_topic_filter,
+            text,
+        )
     }
 
     fn is_valid_subscription_filter(&self, text: &[u8]) -> Answer {
-        ask(cjumbradi_is_valid_subscription_filter, text)
+        ask(
+            Called::IsValidSubscriptionFilter,
+            cjumbradi_is_valid_subscription_filter,
+            text,
+        )
     }
 
     fn is_shared_subscription(&self, text: &[u8]) -> Answer {
-        ask(cjumbradi_is_shared_subscription, text)
+        ask(
+            Called::IsSharedSubscription,
+            cjumbradi_is_shared_subscription,
+            text,
+        )
     }
 
     fn is_limit_subscription(&self, text: &[u8]) -> Answer {
-        ask(cjumbradi_is_limit_subscription, text)
+        ask(
+            Called::IsLimitSubscription,
+            cjumbradi_is_limit_subscription,
+            text,
+        )
     }
 
     fn is_exclusive_subscription(&self, text: &[u8]) -> Answer {
-        ask(cjumbradi_is_exclusive_subscription, text)
+        ask(
+            Called::IsExclusiveSubscription,
+            cjumbradi_is_exclusive_subscription,
+            text,
+        )
     }
 
     fn matches(&self, filter: &[u8], name: &[u8]) -> Answer {
+        count(Called::Matches);
+        let (filter, name) = (Lent::new(filter), Lent::new(name));
         let mut value = UNWRITTEN;
         // SAFETY: as in `ask`, for two slices.
         let number = unsafe {

@@ -4,6 +4,7 @@ mod answers;
 mod called;
 mod called_names;
 mod compare;
+mod counts;
 mod damage;
 mod damaged;
 #[cfg(feature = "rust")]
@@ -13,11 +14,13 @@ mod gate;
 mod held;
 mod history;
 mod inputs;
+mod lent;
 mod library;
 mod long;
 mod made_stores;
 #[cfg(feature = "rust")]
 mod matching;
+mod mosquitto;
 mod mutation;
 mod name_histories;
 mod named;
@@ -42,6 +45,7 @@ mod twists;
 
 use std::env;
 use std::process::ExitCode;
+use std::time::Instant;
 
 use compare::{Comparison, Judge};
 use library::Library;
@@ -49,7 +53,7 @@ use name_histories::Names;
 use reference::HONEST;
 use subscription_histories::Subscriptions;
 
-const USAGE: &str = "usage: oracle [--self-test | --differences] [--seed N]";
+const USAGE: &str = "usage: oracle [--self-test | --differences | --minutes N] [--seed N]";
 
 /// Cases without a difference, and cases with one.
 #[derive(Default)]
@@ -90,14 +94,20 @@ pub fn rust_judge() -> Option<&'static dyn Judge> {
     None
 }
 
-/// All judges: the reference, and the Rust where it is compiled in.
+/// All judges: the reference, the Rust where it is compiled in, and mosquitto where it is installed.
 pub fn judges() -> Vec<&'static dyn Judge> {
     let reference: &dyn Judge = &HONEST;
-    [reference].into_iter().chain(rust_judge()).collect()
+    let mosquitto = mosquitto::judge().map(|judge| judge as &dyn Judge);
+    [Some(reference), rust_judge(), mosquitto]
+        .into_iter()
+        .flatten()
+        .collect()
 }
 
 enum Mode {
     Gate,
+    /// Run after run with one seed after another, for so many minutes.
+    Minutes(u64),
     SelfTest,
     Differences,
 }
@@ -109,6 +119,7 @@ fn arguments(mut words: impl Iterator<Item = String>) -> Option<(Mode, u64)> {
         match word.as_str() {
             "--self-test" => mode = Mode::SelfTest,
             "--differences" => mode = Mode::Differences,
+            "--minutes" => mode = Mode::Minutes(words.next()?.parse().ok()?),
             "--seed" => seed = words.next()?.parse().ok()?,
             _ => return None,
         }
@@ -126,6 +137,40 @@ fn print_differences() {
     println!("the Rust is not compiled in: no differences from it");
 }
 
+/// One whole run: texts, regions, and histories of both stores.
+fn compared(seed: u64) -> Totals {
+    if mosquitto::judge().is_none() {
+        println!("oracle: no libmosquitto, its comparison left out (Debian: libmosquitto1)");
+    }
+    let comparison = Comparison {
+        candidate: &Library,
+        judges: &judges(),
+    };
+    gate::run(&comparison, stages::stages(&stages::GATE, seed))
+        .and(damage::run(&damage::GATE, seed))
+        .and(history::run::<Subscriptions>(seed))
+        .and(history::run::<Names>(seed))
+}
+
+/// Whole runs until so many minutes have passed, and then how often each call was made.
+fn compared_for(minutes: u64, seed: u64) -> Totals {
+    let started = Instant::now();
+    let mut totals = Totals::default();
+    for seed in seed.. {
+        totals = totals.and(compared(seed));
+        let seconds = started.elapsed().as_secs();
+        println!(
+            "after seed {seed}: {} passed, {} failed, {seconds} s",
+            totals.passed, totals.failed
+        );
+        if seconds >= 60 * minutes {
+            break;
+        }
+    }
+    counts::print();
+    totals
+}
+
 fn main() -> ExitCode {
     let Some((mode, seed)) = arguments(env::args().skip(1)) else {
         eprintln!("{USAGE}");
@@ -137,17 +182,8 @@ fn main() -> ExitCode {
             return ExitCode::SUCCESS;
         }
         Mode::SelfTest => self_test::run(seed),
-        Mode::Gate => {
-            let comparison = Comparison {
-                candidate: &Library,
-                judges: &judges(),
-            };
-            let of_texts = gate::run(&comparison, stages::stages(&stages::GATE, seed));
-            of_texts
-                .and(damage::run(&damage::GATE, seed))
-                .and(history::run::<Subscriptions>(seed))
-                .and(history::run::<Names>(seed))
-        }
+        Mode::Gate => compared(seed),
+        Mode::Minutes(minutes) => compared_for(minutes, seed),
     };
     println!("{} passed, {} failed", totals.passed, totals.failed);
     ExitCode::from(u8::from(totals.failed > 0))

@@ -1,9 +1,11 @@
-//! The library's calls on regions, through its C interface, each with bytes around the region that
-//! must stay as they are.
+//! The library's calls on regions, through its C interface, each with bytes in front of the region that
+//! must stay as they are, and a guarded page behind it.
 
 use std::fmt;
 
 use crate::answers::{in_words, Answer};
+use crate::counts::{count, Called};
+use crate::lent::Lent;
 use crate::library::{answer, UNWRITTEN};
 use crate::stores::Kind;
 
@@ -37,30 +39,26 @@ extern "C" {
     fn cjumbradi_count(region: *const u8, region_len: usize, value: *mut u64) -> u64;
 }
 
-/// How many bytes stand on each side of a region, and what they are.
-const AROUND: usize = 32;
+/// How many bytes stand in front of a region, and what they are. Behind it is a guarded page.
+const BEFORE: usize = 32;
 const GUARD: u8 = 0xA5;
 
 /// A region with its guards.
-pub struct Guarded(Vec<u8>);
+pub struct Guarded(Lent);
 
 impl Guarded {
     pub fn new(region: &[u8]) -> Self {
-        let guard = [GUARD; AROUND];
-        Guarded([&guard[..], region, &guard[..]].concat())
+        Guarded(Lent::new(&[&[GUARD; BEFORE][..], region].concat()))
     }
 
     pub fn region(&mut self) -> &mut [u8] {
-        let end = self.0.len() - AROUND;
-        &mut self.0[AROUND..end]
+        &mut self.0[BEFORE..]
     }
 
-    /// What stands between the guards; none where these are not as they were.
+    /// The region; none where the bytes in front of it are not as they were.
     pub fn inner(&self) -> Option<&[u8]> {
-        let (before, rest) = self.0.split_at(AROUND);
-        let (inner, behind) = rest.split_at(rest.len() - AROUND);
-        let is_guard = |bytes: &[u8]| bytes.iter().all(|byte| *byte == GUARD);
-        (is_guard(before) && is_guard(behind)).then_some(inner)
+        let (before, inner) = self.0.split_at(BEFORE);
+        before.iter().all(|byte| *byte == GUARD).then_some(inner)
     }
 
     fn is(&self, region: &[u8]) -> bool {
@@ -85,6 +83,7 @@ impl fmt::Display for Counted {
 }
 
 pub fn needed([nodes, pairs, cells]: [u64; 3]) -> Answer {
+    count(Called::Needed);
     let mut bytes = UNWRITTEN;
     // SAFETY: `bytes` outlives the call.
     let number = unsafe { cjumbradi_needed(nodes, pairs, cells, &mut bytes) };
@@ -94,7 +93,8 @@ pub fn needed([nodes, pairs, cells]: [u64; 3]) -> Answer {
 /// What the calls that count answer about a region; none where they wrote to it or beside it.
 pub fn counted(region: &[u8]) -> Option<Counted> {
     let mut guarded = Guarded::new(region);
-    let mut ask = |call: CountCall| {
+    let mut ask = |called: Called, call: CountCall| {
+        count(called);
         let lent = guarded.region();
         let mut value = UNWRITTEN;
         // SAFETY: the pointer and the length are those of a slice that can be written, so that a
@@ -103,9 +103,9 @@ pub fn counted(region: &[u8]) -> Option<Counted> {
         answer(number, value, value)
     };
     let found = Counted {
-        nodes_size: ask(cjumbradi_nodes_size),
-        values_size: ask(cjumbradi_values_size),
-        count: ask(cjumbradi_count),
+        nodes_size: ask(Called::NodesSize, cjumbradi_nodes_size),
+        values_size: ask(Called::ValuesSize, cjumbradi_values_size),
+        count: ask(Called::Count, cjumbradi_count),
     };
     guarded.is(region).then_some(found)
 }
@@ -116,6 +116,7 @@ pub fn opened(kind: Kind, region: &[u8], most: [u64; 3]) -> Option<(Answer, Vec<
         Kind::Subscriptions => cjumbradi_open_subscriptions,
         Kind::Retained => cjumbradi_open_retained,
     };
+    count(Called::Open);
     let mut guarded = Guarded::new(region);
     let [nodes, pairs, cells] = most;
     let lent = guarded.region();

@@ -2,6 +2,8 @@
 //! region that must stay as they are.
 
 use crate::answers::Answer;
+use crate::counts::{self, Called};
+use crate::lent::Lent;
 use crate::library::{answer, UNWRITTEN};
 use crate::named::Stored;
 use crate::regions::Guarded;
@@ -68,6 +70,8 @@ impl Retained {
     }
 
     pub fn set(&mut self, name: &[u8], payload: u64, stored: Stored) -> Answer {
+        counts::count(Called::Set);
+        let name = Lent::new(name);
         let lent = self.0.region();
         let mut told = UNWRITTEN;
         // SAFETY: pointers and lengths are those of slices that do not overlap, and `told` outlives
@@ -89,6 +93,7 @@ impl Retained {
     }
 
     pub fn sweep(&mut self, clock: u64) -> Answer {
+        counts::count(Called::Sweep);
         let lent = self.0.region();
         let mut told = UNWRITTEN;
         // SAFETY: as in `set`.
@@ -97,6 +102,7 @@ impl Retained {
     }
 
     pub fn count(&mut self) -> Answer {
+        counts::count(Called::Count);
         let lent = self.0.region();
         let mut told = UNWRITTEN;
         // SAFETY: as in `set`.
@@ -106,6 +112,9 @@ impl Retained {
 
     /// The lookup into a buffer. A refusal hands back 0 records, or this is no answer.
     pub fn lookup(&mut self, filter: &[u8], clock: u64, out: &mut [u8]) -> Answer<Listed> {
+        counts::count(Called::Lookup);
+        let mut lent_out = Lent::new(out);
+        let filter = Lent::new(filter);
         let lent = self.0.region();
         let (mut bytes, mut records) = (UNWRITTEN, UNWRITTEN);
         // SAFETY: as in `set`, with a buffer that may be written.
@@ -116,18 +125,21 @@ impl Retained {
                 filter.as_ptr(),
                 filter.len(),
                 clock,
-                out.as_mut_ptr(),
-                out.len(),
+                lent_out.as_mut_ptr(),
+                lent_out.len(),
                 &mut bytes,
                 &mut records,
             )
         };
+        out.copy_from_slice(&lent_out);
         let place = if records == 0 { bytes } else { UNWRITTEN };
         answer(number, Listed { bytes, records }, place)
     }
 
     /// A page into a buffer. A refusal hands back 0 records and that no more follow.
     pub fn page(&mut self, clock: u64, offset: u64, limit: u64, out: &mut [u8]) -> Answer<Paged> {
+        counts::count(Called::Page);
+        let mut lent_out = Lent::new(out);
         let lent = self.0.region();
         let (mut bytes, mut records, mut more) = (UNWRITTEN, UNWRITTEN, UNWRITTEN);
         // SAFETY: as in `lookup`.
@@ -138,13 +150,14 @@ impl Retained {
                 clock,
                 offset,
                 limit,
-                out.as_mut_ptr(),
-                out.len(),
+                lent_out.as_mut_ptr(),
+                lent_out.len(),
                 &mut bytes,
                 &mut records,
                 &mut more,
             )
         };
+        out.copy_from_slice(&lent_out);
         let place = if (records, more) == (0, 0) {
             bytes
         } else {

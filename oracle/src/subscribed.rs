@@ -2,6 +2,8 @@
 //! region that must stay as they are.
 
 use crate::answers::Answer;
+use crate::counts::{count, Called};
+use crate::lent::Lent;
 use crate::library::{answer, UNWRITTEN};
 use crate::regions::Guarded;
 
@@ -70,7 +72,9 @@ impl Subscribed {
         self.0.inner()
     }
 
-    fn change(&mut self, call: ChangeCall, filter: &[u8], value: u32) -> Answer {
+    fn change(&mut self, called: Called, call: ChangeCall, filter: &[u8], value: u32) -> Answer {
+        count(called);
+        let filter = Lent::new(filter);
         let lent = self.0.region();
         let mut told = UNWRITTEN;
         // SAFETY: pointers and lengths are those of slices that do not overlap, and `told` outlives
@@ -89,14 +93,16 @@ impl Subscribed {
     }
 
     pub fn insert(&mut self, filter: &[u8], value: u32) -> Answer {
-        self.change(cjumbradi_insert, filter, value)
+        self.change(Called::Insert, cjumbradi_insert, filter, value)
     }
 
     pub fn remove(&mut self, filter: &[u8], value: u32) -> Answer {
-        self.change(cjumbradi_remove, filter, value)
+        self.change(Called::Remove, cjumbradi_remove, filter, value)
     }
 
     pub fn is_match(&mut self, name: &[u8]) -> Answer {
+        count(Called::IsMatch);
+        let name = Lent::new(name);
         let lent = self.0.region();
         let mut yes = UNWRITTEN;
         // SAFETY: as in `change`.
@@ -114,6 +120,9 @@ impl Subscribed {
 
     /// The listing into a buffer. A refusal hands back 0 records, or this is no answer.
     pub fn listing(&mut self, name: &[u8], out: &mut [u8]) -> Answer<Listed> {
+        count(Called::Listing);
+        let mut lent_out = Lent::new(out);
+        let name = Lent::new(name);
         let lent = self.0.region();
         let (mut bytes, mut records) = (UNWRITTEN, UNWRITTEN);
         // SAFETY: as in `change`, with a buffer that may be written.
@@ -123,17 +132,19 @@ impl Subscribed {
                 lent.len(),
                 name.as_ptr(),
                 name.len(),
-                out.as_mut_ptr(),
-                out.len(),
+                lent_out.as_mut_ptr(),
+                lent_out.len(),
                 &mut bytes,
                 &mut records,
             )
         };
+        out.copy_from_slice(&lent_out);
         let place = if records == 0 { bytes } else { UNWRITTEN };
         answer(number, Listed { bytes, records }, place)
     }
 
-    fn count(&mut self, call: CountCall) -> Answer {
+    fn size(&mut self, called: Called, call: CountCall) -> Answer {
+        count(called);
         let lent = self.0.region();
         let mut told = UNWRITTEN;
         // SAFETY: as in `change`.
@@ -143,6 +154,9 @@ impl Subscribed {
 
     /// Nodes and values.
     pub fn sizes(&mut self) -> [Answer; 2] {
-        [cjumbradi_nodes_size, cjumbradi_values_size].map(|call: CountCall| self.count(call))
+        [
+            self.size(Called::NodesSize, cjumbradi_nodes_size),
+            self.size(Called::ValuesSize, cjumbradi_values_size),
+        ]
     }
 }
