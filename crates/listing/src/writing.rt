@@ -50,7 +50,7 @@ fn write_walk(
     if 128 <= depth {
         return before;
     }
-    let with_all = records::write_below(out, before, s, base, end, past, size, name, marks, depth);
+    let next = records::write_below(out, before, s, base, end, past, size, name, marks, depth);
     let t = walk::go_on(s, base, end, past, depth, name, from);
     let any = t.any;
     let own = t.own;
@@ -60,31 +60,9 @@ fn write_walk(
     let wide = size + 2;
     let long = size + (stop - from) + 1;
     marks[depth] = 1;
-    let with_any = write_walk(
-        s,
-        base,
-        any,
-        below,
-        name,
-        beyond,
-        wide,
-        marks,
-        out,
-        with_all,
-    );
+    let then = write_walk(s, base, any, below, name, beyond, wide, marks, out, next);
     marks[depth] = 0;
-    write_walk(
-        s,
-        base,
-        own,
-        below,
-        name,
-        beyond,
-        long,
-        marks,
-        out,
-        with_any,
-    )
+    write_walk(s, base, own, below, name, beyond, long, marks, out, then)
 }
 
 // The listing for a name of the filters that a region holds in its units from 0 up to n, where the buffer has room for it; and
