@@ -1,11 +1,11 @@
 // The cases on texts. Most stand in `stdin`, a call to a line; those that are no line of text stand here.
 ghost use Prim.Native.Nat.{_≤_};
 ghost use lib.ListN.{length};
-use crate::saying::say;
-use crate::saying::say_checked;
 use crate::saying::say_matched;
 use crate::saying::say_parsed;
 use libc::STDIN_FILENO;
+use say::say;
+use say::say_checked;
 
 // The three validity tests, of a text that has a label.
 fn tests(label: &[u8], text: &[u8]) {

@@ -1,13 +1,13 @@
 // The cases on a store of retained names.
 use crate::opening::open;
-use crate::saying::say;
 use crate::saying::say_changed;
 use crate::saying::say_listed;
-use crate::saying::say_number;
-use crate::saying::say_refusal;
 use region::Kind;
 use retain::Moment;
 use retain::Names;
+use say::say;
+use say::say_number;
+use say::say_refusal;
 
 fn look(label: &[u8], region: &[u8], filter: &[u8], clock: u64) {
     let mut out: [u8; 128] = [0; 128];

@@ -1,0 +1,28 @@
+// How the programs print: texts, numbers and refusals, to standard output.
+use libc::STDOUT_FILENO;
+use refusal::Refusal;
+use topic::Checked;
+
+pub fn say(text: &[u8]) {
+    io::write_all(STDOUT_FILENO, text);
+}
+
+pub fn say_number(n: u64) {
+    io::print_decimal(STDOUT_FILENO, n);
+}
+
+// A refusal by its number and place.
+pub fn say_refusal(refusal: Refusal) {
+    say(b"refused ");
+    say_number(refusal::number(refusal));
+    say(b" at ");
+    say_number(refusal::place(refusal));
+    say(b"\n");
+}
+
+pub fn say_checked(checked: Checked) {
+    match checked {
+        Checked::Accepted => say(b"accepted\n"),
+        Checked::Refused(refusal) => say_refusal(refusal),
+    }
+}
