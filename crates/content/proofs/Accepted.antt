@@ -6,7 +6,7 @@ use mathlib.Core.List.{List, [], _∷_}
 use native.Mathlib.Omega.{arith}
 use lib.Dec.{ltb}
 use lib.ListN.{length}
-use borrow.Author.Tests.{le-ltb, ltb-false, not-false}
+use borrow.Author.Tests.{le-ltb, ltb-false, not-true, not-false}
 use Rattle.utf8.specs.Utf8.{isUtf8}
 use Rattle.level.specs.Levels.{split, join, width, has}
 use Rattle.level.specs.Kinds.{blank, wild, bad}
@@ -24,7 +24,7 @@ use Rattle.region.specs.declared.Kind.{Kind}
 use Rattle.region.specs.declared.Kind.the-variants.{Subscriptions, Retained}
 use Rattle.content.specs.Contents.{fault, levelFine}
 use Rattle.content.specs.Texts.{rulesOf, TextFine}
-use Rattle.content.proofs.Joins.{all, all-and, join-utf8, join-nul, join-wild, join-length, clean-all, all-clean, all-left, all-right, index-none, hash-only, not-true}
+use Rattle.content.proofs.Joins.{all, all-and, join-utf8, join-nul, join-wild, join-length, clean-all, all-clean, all-left, all-right, index-none, hash-only}
 
 -- fine levels, test by test
 fine-all : (k : Kind) (f : Filter) → all (levelFine k) f ≡ (all isUtf8 f && (all (λ l. not (has 0 l)) f && (all (λ l. not (has 47 l)) f && all (λ l. not (fault k l)) f)))

@@ -6,7 +6,7 @@ use mathlib.Core.List.{List, [], _∷_, _++_}
 use native.Mathlib.Omega.{arith}
 use lib.Dec.{eqb, ltb, leb·suc-suc}
 use lib.ListN.{length, length-append}
-use borrow.Author.Tests.{lt-ltb, le-ltb, ltb-false}
+use borrow.Author.Tests.{lt-ltb, le-ltb, ltb-false, not-true}
 use Rattle.utf8.specs.Utf8.{isUtf8}
 use Rattle.utf8.proofs.Joined.{utf8-slash}
 use Rattle.level.specs.Levels.{join, width, has}
@@ -83,10 +83,6 @@ all-right p l f e = go (p l) e
     go : (t : Bool) → (t && all p f) ≡ true → all p f ≡ true
     go true h = h
     go false h = absurd (true≢false (sym h))
-
-pub not-true : (t : Bool) → not t ≡ true → t ≡ false
-not-true true h = absurd (true≢false (sym h))
-not-true false h = refl
 
 pub all-clean : (f : Filter) → all (λ l. not (has 47 l)) f ≡ true → Clean f
 all-clean [] e = no-more

@@ -6,6 +6,7 @@ use mathlib.Core.List.{List, _++_}
 use Prim.Native.Nat.{ℕ}
 use lib.ListN.{length, drop}
 use Rattle.refusal.specs.declared.Refusal.{Refusal}
+use Rattle.topic.specs.Rules.{Rule}
 use Rattle.topic.specs.Answers.{checked}
 use Rattle.topic.specs.declared.Checked.{Checked}
 use Rattle.topic.specs.declared.Checked.the-variants.{Accepted, Refused as NotAccepted}
@@ -18,6 +19,10 @@ use Rattle.region.specs.Store.{roomAt}
 use Rattle.change.proofs.EditLaws.{Becomes}
 use Rattle.edit.specs.declared.Changed.the-variants.{Done, Refused}
 use Rattle.edit.specs.Calls.{StoreKind, Step, Does}
+
+-- a text that was tested and accepted
+pub text-accepted : (rules : List Rule) {k : Checked} → k ≡ checked rules → k ≡ Accepted → checked rules ≡ Accepted
+text-accepted rules e q = sym e ∙ q
 
 -- the rules for room decide where the text is accepted
 pub verdict-is : {H : Type 0} (e : Effect H) → checked (e .texts) ≡ Accepted → verdict e ≡ checked (e .rooms)

@@ -5,6 +5,7 @@ use mathlib.Core.List.{List, [], _∷_, _++_}
 use Prim.Native.Nat.{ℕ, _+_, _-_, _≤_, _<_}
 use native.Mathlib.Omega.{arith}
 use lib.ListN.{length, take, getD}
+use borrow.Author.Tests.{not-true, not-false}
 use Rattle.refusal.specs.declared.Refusal.the-variants.{NotAStore}
 use Rattle.level.specs.Levels.{split}
 use Rattle.topic.specs.Rules.{nameRules}
@@ -36,19 +37,11 @@ use Rattle.edit.proofs.KnownPath.{node-is}
 use Rattle.edit.proofs.Taken.{cut-within, alone-own, not-alone, unit-gone, path-gone}
 use Rattle.retain.specs.declared.Slot.{Slot}
 use Rattle.retain.specs.Slots.{slotIn}
-use Rattle.retain.specs.Calls.{heldIn, retainedStore, Erases}
+use Rattle.retain.specs.Calls.{heldIn, retainedStore}
+use Rattle.retain.specs.Erasing.{Erases}
 use Rattle.retain.proofs.SlotLaws.{here, own-held, slot-stored, slot-held, One, some-held, none-held}
 use Rattle.retain.proofs.StepLaws.{erase-none, erase-done}
 use Rattle.retain.proofs.StoredPath.{has-is}
-
--- a test turned round
-turned : (t : Bool) → not t ≡ false → t ≡ true
-turned true z = refl
-turned false z = absurd (true≢false z)
-
-turned-not : (t : Bool) → not t ≡ true → t ≡ false
-turned-not true z = absurd (true≢false (sym z))
-turned-not false z = refl
 
 -- a node holds nothing then
 abbrev emptied : List Stored → List Stored
@@ -83,7 +76,7 @@ module _ (s : List ℕ) {base n room : ℕ} (units : UnitsOf s base n room) (f :
   gone-absent h =
       record {
         does = λ (x : Stored).
-            record { does = λ (st : RetainedStore s). erase-none s st f x fine (has-own st (none-held (slot-held s units f few pf q full st at e) (turned-not (slot .held) h))) };
+            record { does = λ (st : RetainedStore s). erase-none s st f x fine (has-own st (none-held (slot-held s units f few pf q full st at e) (not-true (slot .held) h))) };
       }
 
   module _ (h : not (slot .held) ≡ false) {b : Bool} (eb : b ≡ aloneIn base s n node) where
@@ -92,7 +85,7 @@ module _ (s : List ℕ) {base n room : ℕ} (units : UnitsOf s base n room) (f :
       F = forestAt storedOf s
 
       it : One (here s units f few pf q full st .own)
-      it = some-held (slot-held s units f few pf q full st at e) (turned (slot .held) h)
+      it = some-held (slot-held s units f few pf q full st at e) (not-false (slot .held) h)
 
       done : (t : List ℕ) → Becomes records 2 s t (cutF emptied (split f) F) → Step retainedStore (set f 0 x) s t (Done 3)
       unfolding eraseF

@@ -40,15 +40,13 @@ use Rattle.edit.specs.declared.Changed.the-variants.{Done, Refused}
 use Rattle.edit.specs.Calls.{Does}
 use Rattle.edit.proofs.StepLaws.{verdict-is, accepted-does, text-refused}
 use Rattle.edit.proofs.KnownPath.{deep-rule, no-units-told, stands}
-use Rattle.retain.specs.Calls.{heldIn, retainedStore, Erases}
+use Rattle.retain.specs.Calls.{heldIn, retainedStore}
+use Rattle.retain.specs.Erasing.{Erases}
 use Rattle.retain.proofs.StepLaws.{set-refused, erase-none}
 use Rattle.retain.proofs.StoredPath.{has-is}
 
 pub accepted-size : (f : List ℕ) → checked (nameRules f) ≡ Accepted → length f ≤ 65535
 accepted-size f e = rw (join-split f) at (name-written f (ap accepted e) .short)
-
-pub text-fine : (f : List ℕ) {k : Checked} → k ≡ checked (nameRules f) → k ≡ Accepted → checked (nameRules f) ≡ Accepted
-text-fine f e q = sym e ∙ q
 
 pub too-deep : (s f : List ℕ) (x : Stored) → checked (nameRules f) ≡ Accepted → {k : ℕ} → k ≡ length (split f) → 128 < k → Does retainedStore (set f 1 x) s s (Refused TooDeep)
 too-deep s f x fine e h =
@@ -114,10 +112,10 @@ pub name-refused : (f : List ℕ) (x : Stored) (s : List ℕ) (payload : ℕ) {k
 name-refused f x s zero q z = text-refused retainedStore s (set f 0 x) q z
 name-refused f x s (suc k) q z = text-refused retainedStore s (set f (suc k) x) q z
 
--- a store that was swept
+-- the units that a walk is lent, and a store that was swept
 module _ (s : List ℕ) {base n room : ℕ} (units : UnitsOf s base n room) where
-  pub sweep-units : (unitAt base n ≤ length s) × (64 + n ≤ base) × (n < 4294967296)
-  sweep-units = (omega (arith, units .within, units .long, units .base-is), omega (arith, units .within, units .base-is), omega (arith, units .within, units .small))
+  pub lent-units : (unitAt base n ≤ length s) × (64 + n ≤ base) × (n < 4294967296)
+  lent-units = (omega (arith, units .within, units .long, units .base-is), omega (arith, units .within, units .base-is), omega (arith, units .within, units .small))
 
   pub swept : (clock : ℕ) {t : List ℕ} {k : ℕ} → Removed clock base n s t k → Does retainedStore (sweep clock) s t (Done k)
   swept clock {t} {k} x =

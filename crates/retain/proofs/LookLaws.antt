@@ -9,9 +9,7 @@ use lib.ListN.{length}
 use borrow.Author.Tests.{lt-ltb, le-ltb, ltb-true, ltb-false}
 use Rattle.refusal.specs.declared.Refusal.{Refusal}
 use Rattle.refusal.specs.declared.Refusal.the-variants.{NotAStore, ShortRoom}
-use Rattle.lent.specs.Parts.{patch}
 use Rattle.level.specs.Levels.{split}
-use Rattle.topic.specs.Match.{leadWild}
 use Rattle.topic.specs.Rules.{filterRules}
 use Rattle.topic.specs.Answers.{checked}
 use Rattle.topic.specs.declared.Checked.{Checked}
@@ -19,21 +17,18 @@ use Rattle.topic.specs.declared.Checked.the-variants.{Accepted, Refused as NotA
 use Rattle.held.specs.Order.{Filter}
 use Rattle.held.specs.Retained.{Stored, Named, lookup, lookupBytes, lookupRules, page, pageBytes, pageRules, more}
 use Rattle.held.specs.Forest.{Forest, hash, held}
-use Rattle.held.specs.Stream.{rowBytes}
-use Rattle.held.proofs.Streams.{lookup-bytes, page-bytes}
 use Rattle.region.specs.Units.{storedOf}
 use Rattle.region.specs.Store.{forestAt, RetainedStore}
 use Rattle.region.specs.declared.Shape.{Shape}
 use Rattle.region.specs.declared.Shape.the-variants.{Not}
 use Rattle.region.specs.Shapes.{UnitsOf, ShapeOf}
 use Rattle.region.proofs.Instances.{records}
-use Rattle.forest.specs.Places.{unitAt}
-use Rattle.forest.proofs.StandsLaws.{stands-read}
 use Rattle.audit.specs.Decides.{Decides}
 use Rattle.lookup.specs.declared.Found.{Found}
 use Rattle.lookup.specs.Standing.{storedIn, Looked}
 use Rattle.lookup.specs.Sizes.{Measured}
-use Rattle.lookup.proofs.Answers.{LookupFound, lookup-found, PageFound, page-found}
+use Rattle.lookup.proofs.Answers.{forest-looked, LookupFound, lookup-found, PageFound, page-found}
+use Rattle.pages.proofs.Answers.{Writes, lookup-written, page-written}
 use Rattle.change.proofs.StoreLaws.{retained-holds}
 use Rattle.sweep.proofs.StoreLaws.{retained-low}
 use Rattle.edit.specs.declared.Listed.{Listed}
@@ -59,21 +54,18 @@ more-left offset limit {total} h = go (ltb limit (total - offset)) refl
 
 -- the forest of a store stands in its units, and is at most 128 deep
 module _ (s : List ℕ) {base n room : ℕ} (units : UnitsOf s base n room) where
-  pub look-units : (unitAt base n ≤ length s) × (64 + n ≤ base) × (n < 4294967296)
-  look-units = (omega (arith, units .within, units .long, units .base-is), omega (arith, units .within, units .base-is), omega (arith, units .within, units .small))
-
   module _ (st : RetainedStore s) where
     abbrev F : Forest Stored
     F = forestAt storedOf s
 
-    stored-are : storedIn base s n ≡ F
-    stored-are = stands-read records base s 1 0 n F (stands records 2 s units F (retained-holds s st))
+    rests : Looked base s n × (storedIn base s n ≡ F)
+    rests = forest-looked base s n F (stands records 2 s units F (retained-holds s st)) (st .well .owns) (retained-low s st)
 
     looked : Looked base s n
-    looked = rw stored-are (record { stands = stands records 2 s units F (retained-holds s st); single = st .well .owns; low = retained-low s st })
+    looked = rests .0
 
     held-are : held (storedIn base s n) ≡ heldIn s
-    held-are = ap held stored-are
+    held-are = ap held (rests .1)
 
 -- the lookup
 module _ (s filter : List ℕ) (clock : ℕ) where
@@ -99,21 +91,17 @@ module _ (s filter : List ℕ) (clock : ℕ) where
         give-refused (RetainedStore s) (lookupRules filter clock (length out) (heldIn s)) look-answer found out (ShortRoom (m .bytes))
         (λ (st : RetainedStore s). buffer-short (filterRules filter) found out fine (is st .bytes-are) h)
 
-    written-as : (st : RetainedStore s) → rowBytes clock 0 18446744073709551615 0 [] (leadWild (split filter)) (split filter) (storedIn base s n) ≡ found
-    written-as st =
-        let l : length (lookup (split filter) clock (held (storedIn base s n))) ≤ 18446744073709551615 =
-        rw (held-are s units st) (omega (arith, is st .total-is, sized .few, units .within, units .small)) in
-        lookup-bytes (split filter) clock 18446744073709551615 (storedIn base s n) l ∙ ap (lookupBytes (split filter) clock) (held-are s units st)
-
-    pub look-given : (out after : List ℕ) → m .bytes ≤ length out
-        → (Looked base s n → length (rowBytes clock 0 18446744073709551615 0 [] (leadWild (split filter)) (split filter) (storedIn base s n)) ≤ length out
-        → after ≡ patch 0 (rowBytes clock 0 18446744073709551615 0 [] (leadWild (split filter)) (split filter) (storedIn base s n)) out)
+    pub look-given : (out after : List ℕ) → m .bytes ≤ length out → Writes clock 0 18446744073709551615 base s n (split filter) out after
         → LooksKnown s filter clock out after (Given (m .bytes) (m .records))
     look-given out after h w =
         give-all (RetainedStore s) (lookupRules filter clock (length out) (heldIn s)) look-answer found out after
         (λ (st : RetainedStore s). buffer-fits (filterRules filter) found out fine (is st .bytes-are) h) (Given (m .bytes) (m .records))
         (λ (st : RetainedStore s). rw (is st .bytes-are, is st .records-are))
-        (λ (st : RetainedStore s). rw (written-as st) at (w (looked s units st) (omega (arith, sized .bytes-are (looked s units st), h))))
+        (λ (st : RetainedStore s).
+        let e = held-are s units st in
+        let l : length (lookup (split filter) clock (held (storedIn base s n))) ≤ 18446744073709551615 = rw e (omega (arith, is st .total-is, sized .few, units .within, units .small)) in
+        let r : length (lookupBytes (split filter) clock (held (storedIn base s n))) ≤ length out = rw e (omega (arith, is st .bytes-are, h)) in
+        rw e at (lookup-written clock 18446744073709551615 base s n out after (looked s units st) (split filter) w l r))
 
   -- the filter is tested before the walk
   module _ {k : Checked} (e : k ≡ checked (filterRules filter)) where
@@ -129,9 +117,6 @@ module _ (s filter : List ℕ) (clock : ℕ) where
 
     pub look-store : {out : List ℕ} → not t ≡ false → {after : List ℕ} {r : Listed} → LooksKnown s filter clock out after r → Looks s filter clock out after r
     look-store {out} h a = give-store (RetainedStore s) (lookupRules filter clock (length out) (heldIn s)) look-answer found d h a
-
-pub filter-fine : (filter : List ℕ) {k : Checked} → k ≡ checked (filterRules filter) → k ≡ Accepted → checked (filterRules filter) ≡ Accepted
-filter-fine filter e q = sym e ∙ q
 
 -- a page
 module _ (s : List ℕ) (clock offset limit : ℕ) where
@@ -152,18 +137,16 @@ module _ (s : List ℕ) (clock offset limit : ℕ) where
         give-refused (RetainedStore s) (pageRules offset limit clock (length out) (heldIn s)) (pageAnswer s clock offset limit) paged out (ShortRoom (m .bytes))
         (λ (st : RetainedStore s). buffer-short [] paged out refl (page-is st .bytes-are) h)
 
-    page-as : (st : RetainedStore s) → rowBytes clock offset limit 0 [] true (hash ∷ []) (storedIn base s n) ≡ paged
-    page-as st = page-bytes offset limit clock (storedIn base s n) ∙ ap (pageBytes offset limit clock) (held-are s units st)
-
-    pub page-given : (out after : List ℕ) {follows : Bool} → follows ≡ ltb (offset + limit) (m .total) → m .bytes ≤ length out
-        → (Looked base s n → length (rowBytes clock offset limit 0 [] true (hash ∷ []) (storedIn base s n)) ≤ length out
-        → after ≡ patch 0 (rowBytes clock offset limit 0 [] true (hash ∷ []) (storedIn base s n)) out)
+    pub page-given : (out after : List ℕ) {follows : Bool} → follows ≡ ltb (offset + limit) (m .total) → m .bytes ≤ length out → Writes clock offset limit base s n (hash ∷ []) out after
         → PagesKnown s clock offset limit out after (PageGiven (m .bytes) (m .records) follows)
     page-given out after {follows} e h w =
         give-all (RetainedStore s) (pageRules offset limit clock (length out) (heldIn s)) (pageAnswer s clock offset limit) paged out after
         (λ (st : RetainedStore s). buffer-fits [] paged out refl (page-is st .bytes-are) h) (PageGiven (m .bytes) (m .records) follows)
         (λ (st : RetainedStore s). rw (page-is st .bytes-are, page-is st .records-are, e ∙ page-is st .more-is))
-        (λ (st : RetainedStore s). rw (page-as st) at (w (looked s units st) (omega (arith, sized .bytes-are (looked s units st), h))))
+        (λ (st : RetainedStore s).
+        let z = held-are s units st in
+        let r : length (pageBytes offset limit clock (held (storedIn base s n))) ≤ length out = rw z (omega (arith, page-is st .bytes-are, h)) in
+        rw z at (page-written clock limit base s n out after (looked s units st) offset w r))
 
   module _ {t : Bool} (d : Decides t (RetainedStore s)) where
     pub page-other : (out : List ℕ) → not t ≡ true → Pages s clock offset limit out out (PageRefused NotAStore)

@@ -3,12 +3,11 @@
 use Prim.Native.Nat.{ℕ}
 use mathlib.Core.List.{List}
 use mathlib.Core.Option.{Option, none, some}
-use Rattle.held.specs.Retained.{Stored, Named, Call, set, retained}
+use Rattle.held.specs.Retained.{Stored, Named, Call, retained}
 use Rattle.held.specs.Forest.{held}
 use Rattle.region.specs.Units.{storedOf}
 use Rattle.region.specs.Store.{forestAt, RetainedStore}
-use Rattle.edit.specs.declared.Changed.{Changed}
-use Rattle.edit.specs.Calls.{StoreKind, Does}
+use Rattle.edit.specs.Calls.{StoreKind}
 use Rattle.retain.specs.declared.Moment.{Moment}
 use Rattle.retain.specs.declared.Moment.the-variants.{Never, At}
 
@@ -26,7 +25,3 @@ momentOf (At m) = some m
 
 abbrev pub storedAs : (handle : ℕ) → Moment → Stored
 storedAs handle m = record { handle = handle; moment = momentOf m }
-
--- a call that erases a name, whatever record it was given, on a region that it does not test
-pub record Erases (name s t : List ℕ) (r : Changed) : Type 0 where
-  pub does : (x : Stored) → Does retainedStore (set name 0 x) s t r

@@ -1,4 +1,5 @@
 pub mod Calls
+pub mod Erasing
 pub mod Slots
 pub mod Units
 pub mod Counted

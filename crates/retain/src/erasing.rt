@@ -8,7 +8,7 @@ ghost use Rattle.topic.specs.Answers.{checked};
 ghost use Rattle.topic.specs.declared.Checked.the-variants.{Accepted};
 ghost use Rattle.region.specs.Shapes.{UnitsOf};
 ghost use Rattle.seek.specs.PathFound.{PathFound};
-ghost use Rattle.retain.specs.Calls.{Erases};
+ghost use Rattle.retain.specs.Erasing.{Erases};
 use crate::slots;
 use edit::Changed;
 use refusal::Refusal;

@@ -8,7 +8,7 @@ use native.Mathlib.Numerals.{add-one}
 use lib.Dec.{eqb}
 use lib.ListN.{length, take, drop, getD, length-take, drop-of-length-le}
 use lib.Seq.{drop-cons, getD-take}
-use borrow.Author.Tests.{eq-eqb, ne-eqb}
+use borrow.Author.Tests.{eq-eqb, ne-eqb, not-true, not-false}
 use Rattle.forest.specs.declared.Row.{Row}
 use Rattle.forest.specs.Places.{ownAt, rowEnd, kidsEnd, RowAt}
 use Rattle.room.specs.Changes.{Under}
@@ -51,14 +51,6 @@ module _ (base : ℕ) (s : List ℕ) (n : ℕ) where
       drop-cons ns (c - 1) 0 (omega arith)
       ∙ ap (λ (l : List ℕ). getD ns (c - 1) 0 ∷ l) (rw z (drop-cons ns c 0 h ∙ rw add-one))
 
-turned : (t : Bool) → not t ≡ false → t ≡ true
-turned true e = refl
-turned false e = absurd (true≢false e)
-
-turned-not : (t : Bool) → not t ≡ true → t ≡ false
-turned-not true e = absurd (true≢false (sym e))
-turned-not false e = refl
-
 -- the turns of stay
 pub record StayLeft (base : ℕ) (s : List ℕ) (n : ℕ) (nodes : List ℕ) (depth c : ℕ) : Type 0 where
   pub gone : staying base s n (drop c (take depth nodes)) ≡ 0
@@ -91,7 +83,7 @@ module _ (base : ℕ) (s : List ℕ) (n : ℕ) (nodes : List ℕ) (depth : ℕ) 
 
     pub stay-again : {t : Bool} {i k : ℕ} → t ≡ loneAt base s n i k → i ≡ getD nodes (c - 1) 0 → k ≡ getD nodes c 0 → not t ≡ false → StayLeft base s n nodes depth (c - 1)
     stay-again {t} e ei ek z =
-        let y : loneAt base s n (getD nodes (c - 1) 0) (getD nodes c 0) ≡ true = sym (rw (ei, ek) at e) ∙ turned t z in
+        let y : loneAt base s n (getD nodes (c - 1) 0) (getD nodes c 0) ≡ true = sym (rw (ei, ek) at e) ∙ not-false t z in
         record {
           gone = ap (staying base s n) pair-on ∙ stay-more base s n (getD nodes (c - 1) 0) (getD nodes c 0) (drop (c + 1) (take depth nodes)) ∙ rw (y, below-none);
           on = omega (arith, r .on);
@@ -99,7 +91,7 @@ module _ (base : ℕ) (s : List ℕ) (n : ℕ) (nodes : List ℕ) (depth : ℕ) 
 
     pub stay-stop : {t : Bool} {i k : ℕ} → t ≡ loneAt base s n i k → i ≡ getD nodes (c - 1) 0 → k ≡ getD nodes c 0 → not t ≡ true → c ≡ staying base s n (take depth nodes)
     stay-stop {t} e ei ek z =
-        let y : loneAt base s n (getD nodes (c - 1) 0) (getD nodes c 0) ≡ false = sym (rw (ei, ek) at e) ∙ turned-not t z in
+        let y : loneAt base s n (getD nodes (c - 1) 0) (getD nodes c 0) ≡ false = sym (rw (ei, ek) at e) ∙ not-true t z in
         let o : staying base s n (drop (c - 1) (take depth nodes)) ≡ suc 0 =
         ap (staying base s n) pair-on ∙ stay-more base s n (getD nodes (c - 1) 0) (getD nodes c 0) (drop (c + 1) (take depth nodes)) ∙ rw (y, below-none) in
         omega (arith, stay-rest base s n (c - 1) 0 (take depth nodes) (omega (arith, path-long, r .on)) o)

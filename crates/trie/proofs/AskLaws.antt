@@ -185,9 +185,6 @@ module _ (s name : List ℕ) {k : Checked} (e : k ≡ checked (nameRules name)) 
       give-refused (SubscriptionStore s) (listingRules name (length out) (heldIn s)) (list-answer s name) (out-bytes s name) out x
       (λ (st : SubscriptionStore s). text-refuses (nameRules name) (out-bytes s name) out e q)
 
-  pub name-fine : k ≡ Accepted → checked (nameRules name) ≡ Accepted
-  name-fine q = sym e ∙ q
-
   pub name-size : k ≡ Accepted → length name ≤ 65535
   name-size q = rw (join-split name) at (name-written name (ap accepted (sym e ∙ q)) .short)
 

@@ -41,9 +41,6 @@ use Rattle.trie.proofs.StoredPath.{held-is}
 pub accepted-size : (f : List ℕ) → checked (filterRules f) ≡ Accepted → length f ≤ 65535
 accepted-size f e = rw (join-split f) at (filter-written f (ap accepted e) .short)
 
-pub text-fine : (f : List ℕ) {k : Checked} → k ≡ checked (filterRules f) → k ≡ Accepted → checked (filterRules f) ≡ Accepted
-text-fine f e q = sym e ∙ q
-
 pub too-deep : (s f : List ℕ) (x : ℕ) → checked (filterRules f) ≡ Accepted → {k : ℕ} → k ≡ length (split f) → 128 < k → Does subscriptionStore (insert f x) s s (Refused TooDeep)
 too-deep s f x fine e h =
     record {

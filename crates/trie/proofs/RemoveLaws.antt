@@ -6,7 +6,7 @@ use Prim.Native.Nat.{ℕ, _+_, _-_, _≤_, _<_}
 use native.Mathlib.Omega.{arith}
 use lib.Dec.{eqb}
 use lib.ListN.{length, take, getD, length-append}
-use borrow.Author.Tests.{eq-eqb}
+use borrow.Author.Tests.{eq-eqb, not-true, not-false}
 use Rattle.refusal.specs.declared.Refusal.the-variants.{NotAStore}
 use Rattle.level.specs.Levels.{split}
 use Rattle.topic.specs.Rules.{filterRules}
@@ -54,14 +54,6 @@ one-of (y ∷ a) b x h = absurd (omega (arith, h, length-append a (x ∷ b)))
 without-one : (x : ℕ) → withoutValue x (x ∷ []) ≡ []
 without-one x = rw (eq-eqb x x refl)
 
-turned : (t : Bool) → not t ≡ false → t ≡ true
-turned true z = refl
-turned false z = absurd (true≢false z)
-
-turned-not : (t : Bool) → not t ≡ true → t ≡ false
-turned-not true z = absurd (true≢false (sym z))
-turned-not false z = refl
-
 -- what is held after a removal fits
 module _ (s : List ℕ) (st : SubscriptionStore s) (f : List ℕ) (fine : checked (filterRules f) ≡ Accepted) (x : ℕ) where
   removed-full : Full (cutF (withoutValue x) (split f) (forestAt valueOf s))
@@ -93,7 +85,7 @@ module _ (s : List ℕ) {base n room : ℕ} (units : UnitsOf s base n room) (f :
   gone-absent h =
       record {
         does = λ (st : SubscriptionStore s).
-            let g = held-so st false (turned-not (slot .held) h) in
+            let g = held-so st false (not-true (slot .held) h) in
             let a = spot-apart x (here s units f few pf q full st .own) (own-asc s units f few pf q full st) g in
             remove-none s st f x fine (held-is s st f x ∙ ap (member eqb x) (own-held st) ∙ a .absent);
       }
@@ -104,7 +96,7 @@ module _ (s : List ℕ) {base n room : ℕ} (units : UnitsOf s base n room) (f :
       F = forestAt valueOf s
 
       among : Among x (here s units f few pf q full st .own) (spotFrom 0 x (here s units f few pf q full st .own) .at)
-      among = spot-among x (here s units f few pf q full st .own) (own-asc s units f few pf q full st) (held-so st true (turned (slot .held) h))
+      among = spot-among x (here s units f few pf q full st .own) (own-asc s units f few pf q full st) (held-so st true (not-false (slot .held) h))
 
       is-held : isHeld (split f, x) (heldIn s) ≡ true
       is-held = held-is s st f x ∙ ap (member eqb x) (own-held st) ∙ among .present

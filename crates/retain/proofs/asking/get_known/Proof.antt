@@ -1,4 +1,5 @@
-use Rattle.retain.proofs.LookLaws.{look-refused, filter-fine}
+use Rattle.edit.proofs.StepLaws.{text-accepted}
+use Rattle.retain.proofs.LookLaws.{look-refused}
 use borrow.Author.Needs.{needs}
 use Rattle.retain.proofs.asking.get_known.Statement.{statement}
 use Rattle.retain.proofs.asking.get_known.Tie as tie
@@ -24,7 +25,7 @@ enum-told c = search needs
 
 -- src/asking.rt:73:5
 look-accepted-requires : tie.Need-look-accepted-requires
-look-accepted-requires c κs = search (needs, filter-fine)
+look-accepted-requires c κs = search (needs, text-accepted)
 
 -- src/asking.rt:66:1
 same-length : tie.Need-same-length

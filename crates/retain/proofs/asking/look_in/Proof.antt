@@ -1,4 +1,5 @@
-use Rattle.retain.proofs.LookLaws.{look-units, look-short, look-given}
+use Rattle.retain.proofs.KnownLaws.{lent-units}
+use Rattle.retain.proofs.LookLaws.{look-short, look-given}
 use borrow.Author.Needs.{needs}
 use Rattle.retain.proofs.asking.look_in.Statement.{statement}
 use Rattle.retain.proofs.asking.look_in.Tie as tie
@@ -9,7 +10,7 @@ use Rattle.pages.proofs.write_all.Reads as write-all-reads
 
 -- src/asking.rt:33:9
 measure-requires : tie.Need-measure-requires
-measure-requires c κs = search (needs, look-units)
+measure-requires c κs = search (needs, lent-units)
 
 -- src/asking.rt:37:9
 returns : tie.Need-returns
@@ -17,7 +18,7 @@ returns c = search (needs, look-short)
 
 -- src/asking.rt:39:5
 write-all-requires : tie.Need-write-all-requires
-write-all-requires c κs = search (needs, look-units)
+write-all-requires c κs = search (needs, lent-units)
 
 -- src/asking.rt:21:1
 same-length : tie.Need-same-length

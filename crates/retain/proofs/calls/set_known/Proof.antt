@@ -1,4 +1,5 @@
-use Rattle.retain.proofs.KnownLaws.{text-fine, name-refused, sets, erases}
+use Rattle.edit.proofs.StepLaws.{text-accepted}
+use Rattle.retain.proofs.KnownLaws.{name-refused, sets, erases}
 use borrow.Author.Needs.{needs}
 use Rattle.retain.proofs.calls.set_known.Statement.{statement}
 use Rattle.retain.proofs.calls.set_known.Tie as tie
@@ -25,7 +26,7 @@ enum-told c = search needs
 
 -- src/calls.rt:43:9
 erase-accepted-requires : tie.Need-erase-accepted-requires
-erase-accepted-requires c κs = search (needs, text-fine)
+erase-accepted-requires c κs = search (needs, text-accepted)
 
 -- src/calls.rt:43:9
 same-length : tie.Need-same-length
@@ -37,7 +38,7 @@ returns-2 c = search (needs, erases)
 
 -- src/calls.rt:45:5
 set-accepted-requires : tie.Need-set-accepted-requires
-set-accepted-requires c κs = search (needs, text-fine)
+set-accepted-requires c κs = search (needs, text-accepted)
 
 -- src/calls.rt:29:1
 same-length-2 : tie.Need-same-length-2

@@ -1,4 +1,4 @@
-use Rattle.retain.proofs.KnownLaws.{sweep-units, swept}
+use Rattle.retain.proofs.KnownLaws.{lent-units, swept}
 use borrow.Author.Needs.{needs}
 use Rattle.retain.proofs.calls.sweep_in.Statement.{statement}
 use Rattle.retain.proofs.calls.sweep_in.Tie as tie
@@ -8,7 +8,7 @@ use Rattle.sweep.proofs.remove_expired.Reads as remove-expired-reads
 
 -- src/calls.rt:54:9
 remove-expired-requires : tie.Need-remove-expired-requires
-remove-expired-requires c κs = search (needs, sweep-units)
+remove-expired-requires c κs = search (needs, lent-units)
 
 -- src/calls.rt:50:1
 same-length : tie.Need-same-length

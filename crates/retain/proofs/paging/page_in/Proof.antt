@@ -1,4 +1,5 @@
-use Rattle.retain.proofs.LookLaws.{look-units, page-short, page-given}
+use Rattle.retain.proofs.KnownLaws.{lent-units}
+use Rattle.retain.proofs.LookLaws.{page-short, page-given}
 use borrow.Author.Needs.{needs}
 use Rattle.retain.proofs.paging.page_in.Statement.{statement}
 use Rattle.retain.proofs.paging.page_in.Tie as tie
@@ -14,7 +15,7 @@ slice-aggregate-measure c = search needs
 
 -- src/paging.rt:38:9
 measure-requires : tie.Need-measure-requires
-measure-requires c κs = search (needs, look-units)
+measure-requires c κs = search (needs, lent-units)
 
 -- src/paging.rt:41:9
 more-follows-requires : tie.Need-more-follows-requires
@@ -30,7 +31,7 @@ slice-aggregate-write-all c = search needs
 
 -- src/paging.rt:45:5
 write-all-requires : tie.Need-write-all-requires
-write-all-requires c κs = search (needs, look-units)
+write-all-requires c κs = search (needs, lent-units)
 
 -- src/paging.rt:25:1
 same-length : tie.Need-same-length

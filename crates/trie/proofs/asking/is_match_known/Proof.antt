@@ -1,4 +1,5 @@
-use Rattle.trie.proofs.AskLaws.{ask-refused, name-fine}
+use Rattle.edit.proofs.StepLaws.{text-accepted}
+use Rattle.trie.proofs.AskLaws.{ask-refused}
 use borrow.Author.Needs.{needs}
 use Rattle.trie.proofs.asking.is_match_known.Statement.{statement}
 use Rattle.trie.proofs.asking.is_match_known.Tie as tie
@@ -24,7 +25,7 @@ enum-told c = search needs
 
 -- src/asking.rt:61:5
 is-match-accepted-requires : tie.Need-is-match-accepted-requires
-is-match-accepted-requires c κs = search (needs, name-fine)
+is-match-accepted-requires c κs = search (needs, text-accepted)
 
 -- src/asking.rt:54:1
 returns-2 : tie.Need-returns-2

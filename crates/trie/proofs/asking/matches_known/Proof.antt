@@ -1,4 +1,5 @@
-use Rattle.trie.proofs.AskLaws.{list-refused, name-fine, name-size}
+use Rattle.edit.proofs.StepLaws.{text-accepted}
+use Rattle.trie.proofs.AskLaws.{list-refused, name-size}
 use borrow.Author.Needs.{needs}
 use Rattle.trie.proofs.asking.matches_known.Statement.{statement}
 use Rattle.trie.proofs.asking.matches_known.Tie as tie
@@ -24,7 +25,7 @@ enum-told c = search needs
 
 -- src/asking.rt:109:5
 list-accepted-requires : tie.Need-list-accepted-requires
-list-accepted-requires c κs = search (needs, name-fine, name-size)
+list-accepted-requires c κs = search (needs, text-accepted, name-size)
 
 -- src/asking.rt:102:1
 same-length : tie.Need-same-length

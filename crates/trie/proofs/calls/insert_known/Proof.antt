@@ -1,6 +1,5 @@
+use Rattle.edit.proofs.StepLaws.{text-accepted, text-refused}
 use Rattle.trie.specs.Calls.{subscriptionStore}
-use Rattle.trie.proofs.KnownLaws.{text-fine}
-use Rattle.edit.proofs.StepLaws.{text-refused}
 use borrow.Author.Needs.{needs}
 use Rattle.trie.proofs.calls.insert_known.Statement.{statement}
 use Rattle.trie.proofs.calls.insert_known.Tie as tie
@@ -26,7 +25,7 @@ enum-told c = search needs
 
 -- src/calls.rt:33:5
 insert-accepted-requires : tie.Need-insert-accepted-requires
-insert-accepted-requires c κs = search (needs, text-fine)
+insert-accepted-requires c κs = search (needs, text-accepted)
 
 -- src/calls.rt:26:1
 same-length : tie.Need-same-length
