@@ -4,16 +4,9 @@ use crate::records;
 use crate::words;
 use edit::Changed;
 use edit::Listed;
-use libc::STDOUT_FILENO;
+use program::say;
+use program::say_number;
 use refusal::Refusal;
-
-pub fn say(text: &[u8]) {
-    io::write_all(STDOUT_FILENO, text);
-}
-
-pub fn say_number(n: u64) {
-    io::print_decimal(STDOUT_FILENO, n);
-}
 
 fn say_refusal(refusal: Refusal) {
     say(b"refused ");

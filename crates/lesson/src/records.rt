@@ -1,8 +1,8 @@
 // The records of a listing, printed: a line for each, and then how many records and values there are.
 ghost use Prim.Native.Nat.{_≤_, _<_};
 ghost use lib.ListN.{length};
-use crate::answers::say;
-use crate::answers::say_number;
+use program::say;
+use program::say_number;
 
 // The number of two bytes at a place.
 fn two(out: &[u8], at: usize) -> usize

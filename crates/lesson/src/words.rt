@@ -3,21 +3,7 @@ ghost use Prim.Native.Nat.{_≤_};
 ghost use lib.ListN.{length};
 use crate::Command;
 use crate::Number;
-
-// Where the first space at or after `from` stands; the length where there is none.
-fn space_at(line: &[u8], from: usize) -> usize
-    requires { ⌜ from ≤ length (now line) ⌝ }
-    ensures { λ r. ⌜ (from ≤ r) × (r ≤ length (now (line .entry))) ⌝ }
-{
-    let mut i = from;
-    while i < line.len() {
-        if line[i] == b' ' {
-            return i;
-        }
-        i += 1;
-    }
-    i
-}
+use program::find;
 
 // A digit more; a number over u32 stays over it.
 fn more(value: u64, digit: u8) -> u64
@@ -83,14 +69,14 @@ fn is_word(line: &[u8], end: usize, word: &[u8]) -> bool
 
 // One space stands between words, and the rest of the line is the filter or the name.
 pub fn command(line: &[u8]) -> Command {
-    let gap = space_at(line, 0);
+    let gap = find(line, b' ', 0);
     if line.len() <= gap {
         return Command::Bad;
     }
     if is_word(line, gap, b"match") {
         return Command::Match { at: gap + 1 };
     }
-    let end = space_at(line, gap + 1);
+    let end = find(line, b' ', gap + 1);
     if line.len() <= end {
         return Command::Bad;
     }

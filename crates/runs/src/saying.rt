@@ -1,7 +1,7 @@
 // How the answers about texts are printed.
-use say::say;
-use say::say_number;
-use say::say_refusal;
+use program::say;
+use program::say_number;
+use program::say_refusal;
 use topic::Matched;
 use topic::Parsed;
 

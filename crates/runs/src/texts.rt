@@ -1,11 +1,10 @@
 // The cases on texts. Most stand in `stdin`, a call to a line; those that are no line of text stand here.
-ghost use Prim.Native.Nat.{_≤_};
-ghost use lib.ListN.{length};
 use crate::saying::say_matched;
 use crate::saying::say_parsed;
 use libc::STDIN_FILENO;
-use say::say;
-use say::say_checked;
+use program::find;
+use program::say;
+use program::say_checked;
 
 // The three validity tests, of a text that has a label.
 fn tests(label: &[u8], text: &[u8]) {
@@ -18,21 +17,6 @@ fn tests(label: &[u8], text: &[u8]) {
     say(label);
     say(b": subscription ");
     say_checked(topic::is_valid_subscription_filter(text));
-}
-
-// Where the first `byte` at or after `from` stands; the length where there is none.
-fn find(text: &[u8], byte: u8, from: usize) -> usize
-    requires { ⌜ from ≤ length (now text) ⌝ }
-    ensures { λ r. ⌜ (from ≤ r) × (r ≤ length (now (text .entry))) ⌝ }
-{
-    let mut i = from;
-    while i < text.len() {
-        if text[i] == byte {
-            return i;
-        }
-        i += 1;
-    }
-    i
 }
 
 // A line `match FILTER NAME`, from the filter on.

@@ -2,12 +2,12 @@
 use crate::opening::open;
 use crate::saying::say_changed;
 use crate::saying::say_listed;
+use program::say;
+use program::say_number;
+use program::say_refusal;
 use region::Kind;
 use retain::Moment;
 use retain::Names;
-use say::say;
-use say::say_number;
-use say::say_refusal;
 
 fn look(label: &[u8], region: &[u8], filter: &[u8], clock: u64) {
     let mut out: [u8; 128] = [0; 128];

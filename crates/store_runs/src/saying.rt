@@ -1,9 +1,9 @@
 // How the answers of the stores are printed.
 use edit::Changed;
 use edit::Listed;
-use say::say;
-use say::say_number;
-use say::say_refusal;
+use program::say;
+use program::say_number;
+use program::say_refusal;
 
 // The answer of a change, behind a label.
 pub fn say_changed(label: &[u8], changed: Changed) {

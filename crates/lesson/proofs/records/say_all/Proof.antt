@@ -4,8 +4,8 @@ use Rattle.lesson.proofs.records.say_all.Statement.{statement}
 use Rattle.lesson.proofs.records.say_all.Tie as tie
 use Rattle.lesson.proofs.records.say_all.Reads as reads
 use Rattle.lesson.proofs.records.say_all.Lts as lts
-use Rattle.lesson.proofs.answers.say.Reads as say-reads
-use Rattle.lesson.proofs.answers.say_number.Reads as say-number-reads
+use Rattle.program.proofs.say.Reads as say-reads
+use Rattle.program.proofs.say_number.Reads as say-number-reads
 use Rattle.lesson.proofs.records.say_record.Reads as say-record-reads
 use Rattle.lesson.proofs.records.two.Reads as two-reads
 

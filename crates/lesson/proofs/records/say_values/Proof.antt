@@ -6,8 +6,8 @@ use Rattle.lesson.proofs.records.say_values.Tie as tie
 use Rattle.lesson.proofs.records.say_values.Reads as reads
 use Rattle.lesson.proofs.records.say_values.Lts as lts
 use Rattle.lent.proofs.get32.Reads as get32-reads
-use Rattle.lesson.proofs.answers.say.Reads as say-reads
-use Rattle.lesson.proofs.answers.say_number.Reads as say-number-reads
+use Rattle.program.proofs.say.Reads as say-reads
+use Rattle.program.proofs.say_number.Reads as say-number-reads
 
 abbrev Inv-loop : tie.InvT-loop
 Inv-loop out at count i₀ t5 i = i ≤ count

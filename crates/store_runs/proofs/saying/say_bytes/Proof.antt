@@ -4,7 +4,7 @@ use Rattle.store_runs.proofs.saying.say_bytes.Statement.{statement}
 use Rattle.store_runs.proofs.saying.say_bytes.Tie as tie
 use Rattle.store_runs.proofs.saying.say_bytes.Reads as reads
 use Rattle.store_runs.proofs.saying.say_bytes.Lts as lts
-use Rattle.say.proofs.say.Reads as say-reads
+use Rattle.program.proofs.say.Reads as say-reads
 use Rattle.store_runs.proofs.saying.say_byte.Reads as say-byte-reads
 
 abbrev Inv-loop : tie.InvT-loop

@@ -1,9 +1,9 @@
--- `runs::find` meets its contract. Assumes nothing.
+-- `program::find` meets its contract. Assumes nothing.
 use borrow.Author.Needs.{needs}
 use Prim.Native.Nat.{_≤_, _-_}
 use lib.ListN.{length}
-use Rattle.runs.proofs.texts.find.Statement.{statement}
-use Rattle.runs.proofs.texts.find.Tie as tie
+use Rattle.program.proofs.words.find.Statement.{statement}
+use Rattle.program.proofs.words.find.Tie as tie
 
 abbrev Inv-loop : tie.InvT-loop
 Inv-loop text byte from i₀ i = (from ≤ i) × (i ≤ length text)

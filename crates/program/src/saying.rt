@@ -1,4 +1,4 @@
-// How the programs print: texts, numbers and refusals, to standard output.
+// How the programs print: texts, numbers and refusals.
 use libc::STDOUT_FILENO;
 use refusal::Refusal;
 use topic::Checked;
