@@ -3,6 +3,9 @@
 
 use std::fmt;
 
+use crate::cjumbradi::kind;
+pub use crate::cjumbradi::refusal as number;
+
 /// A refusal of document 01: its number, and its place (0 where no place is named).
 #[derive(Clone, Copy, Debug, PartialEq, Eq)]
 pub struct Refusal {
@@ -10,28 +13,13 @@ pub struct Refusal {
     pub place: u64,
 }
 
-/// The refusal numbers of the calls that are compared, by document 01's names.
-pub mod number {
-    pub const EMPTY: u64 = 1;
-    pub const TOO_LONG: u64 = 2;
-    pub const NOT_UTF8: u64 = 3;
-    pub const HAS_NUL: u64 = 4;
-    pub const HAS_WILDCARD: u64 = 5;
-    pub const BAD_LEVEL: u64 = 6;
-    pub const HASH_NOT_LAST: u64 = 7;
-    pub const NO_INNER: u64 = 8;
-    pub const BAD_GROUP: u64 = 9;
-    pub const BAD_SIZE: u64 = 10;
-    pub const NOT_A_STORE: u64 = 11;
-    pub const TOO_DEEP: u64 = 12;
-    pub const NODES_FULL: u64 = 13;
-    pub const PAIRS_FULL: u64 = 14;
-    pub const TEXT_FULL: u64 = 15;
-    pub const SHORT_ROOM: u64 = 16;
-}
-
 /// What a call answers: its value, or a refusal.
 pub type Answer<T = u64> = Result<T, Refusal>;
+
+/// A refusal that names no place.
+pub fn refused<T>(number: u64) -> Answer<T> {
+    Err(Refusal { number, place: 0 })
+}
 
 /// A level as a part of the caller's text.
 #[derive(Clone, Copy, Debug, PartialEq, Eq)]
@@ -43,12 +31,12 @@ pub struct Part {
 /// The kinds of a level, with the numbers of the C interface.
 #[derive(Clone, Copy, Debug, PartialEq, Eq)]
 pub enum Kind {
-    None = 0,
-    Normal = 1,
-    Metadata = 2,
-    Blank = 3,
-    SingleWildcard = 4,
-    MultiWildcard = 5,
+    None = kind::NONE as isize,
+    Normal = kind::NORMAL as isize,
+    Metadata = kind::METADATA as isize,
+    Blank = kind::BLANK as isize,
+    SingleWildcard = kind::SINGLE_WILDCARD as isize,
+    MultiWildcard = kind::MULTI_WILDCARD as isize,
 }
 
 /// The public calls of the topic layer. The library has them, and so has the reference.

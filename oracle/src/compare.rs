@@ -17,6 +17,22 @@ pub struct Difference {
 }
 
 impl Difference {
+    /// None where the answer is fine.
+    pub fn unless<T: Display>(
+        is_fine: bool,
+        (judge, call): (&'static str, &'static str),
+        found: &Answer<T>,
+        expected: impl FnOnce() -> String,
+    ) -> Option<Self> {
+        (!is_fine).then(|| Difference {
+            call,
+            level: None,
+            judge,
+            found: in_words(found),
+            expected: expected(),
+        })
+    }
+
     pub fn of_level(self, k: u64) -> Self {
         Difference {
             level: Some(k),
@@ -60,12 +76,8 @@ fn against_reference<T: Display + PartialEq>(
     found: &Answer<T>,
     expected: &Answer<T>,
 ) -> Option<Difference> {
-    (found != expected).then(|| Difference {
-        call,
-        level: None,
-        judge: "reference",
-        found: in_words(found),
-        expected: in_words(expected),
+    Difference::unless(found == expected, ("reference", call), found, || {
+        in_words(expected)
     })
 }
 

@@ -2,59 +2,43 @@
 
 use std::cell::Cell;
 
-/// The calls, as the C interface names them.
-#[derive(Clone, Copy)]
-pub enum Called {
-    Parse,
-    LevelKind,
-    LevelPart,
-    IsValidTopicName,
-    IsValidTopicFilter,
-    IsValidSubscriptionFilter,
-    IsSharedSubscription,
-    IsLimitSubscription,
-    IsExclusiveSubscription,
-    Matches,
-    Needed,
-    Open,
-    NodesSize,
-    ValuesSize,
-    Count,
-    Insert,
-    Remove,
-    IsMatch,
-    Listing,
-    Set,
-    Lookup,
-    Page,
-    Sweep,
+macro_rules! calls {
+    ($($call:ident: $name:literal,)*) => {
+        /// The calls, as the C interface names them.
+        #[derive(Clone, Copy)]
+        pub enum Called {
+            $($call,)*
+        }
+
+        const NAMES: &[&str] = &[$($name),*];
+    };
 }
 
-const NAMES: [&str; 23] = [
-    "parse",
-    "level_kind",
-    "level_part",
-    "is_valid_topic_name",
-    "is_valid_topic_filter",
-    "is_valid_subscription_filter",
-    "is_shared_subscription",
-    "is_limit_subscription",
-    "is_exclusive_subscription",
-    "matches",
-    "needed",
-    "open_subscriptions, open_retained",
-    "nodes_size",
-    "values_size",
-    "count",
-    "insert",
-    "remove",
-    "is_match",
-    "listing",
-    "set",
-    "lookup",
-    "page",
-    "sweep",
-];
+calls! {
+    Parse: "parse",
+    LevelKind: "level_kind",
+    LevelPart: "level_part",
+    IsValidTopicName: "is_valid_topic_name",
+    IsValidTopicFilter: "is_valid_topic_filter",
+    IsValidSubscriptionFilter: "is_valid_subscription_filter",
+    IsSharedSubscription: "is_shared_subscription",
+    IsLimitSubscription: "is_limit_subscription",
+    IsExclusiveSubscription: "is_exclusive_subscription",
+    Matches: "matches",
+    Needed: "needed",
+    Open: "open_subscriptions, open_retained",
+    NodesSize: "nodes_size",
+    ValuesSize: "values_size",
+    Count: "count",
+    Insert: "insert",
+    Remove: "remove",
+    IsMatch: "is_match",
+    Listing: "listing",
+    Set: "set",
+    Lookup: "lookup",
+    Page: "page",
+    Sweep: "sweep",
+}
 
 thread_local! {
     static MADE: [Cell<u64>; NAMES.len()] = const { [const { Cell::new(0) }; NAMES.len()] };

@@ -4,9 +4,9 @@
 use std::time::Instant;
 
 use crate::answers::number::{BAD_SIZE, NOT_A_STORE};
-use crate::answers::{Answer, Refusal};
-use crate::called;
+use crate::answers::{refused, Answer};
 use crate::called_names;
+use crate::called_subscriptions;
 use crate::damaged::{self, Damaged};
 use crate::random::Random;
 use crate::regions::{self, Counted};
@@ -131,10 +131,7 @@ fn wrong(what: &str, region: &[u8]) -> String {
 /// What the calls should answer about a region: counts where it is a store of the kind, else 11.
 fn expected(subscriptions: Option<Counts>, retained: Option<Counts>) -> Counted {
     let told = |count: Option<usize>| -> Answer {
-        count.map(|count| count as u64).ok_or(Refusal {
-            number: NOT_A_STORE,
-            place: 0,
-        })
+        count.map_or(refused(NOT_A_STORE), |count| Ok(count as u64))
     };
     Counted {
         nodes_size: told(subscriptions.map(|used| used.nodes)),
@@ -150,7 +147,7 @@ fn compared(judge: &StoreJudge, region: &[u8], was: Option<&[Node]>) -> Case {
     let retained = judge.store(Kind::Retained, region);
     let used = |store: &Option<Store>| store.as_ref().map(|store| store.used);
     agree(region, expected(used(&subscriptions), used(&retained)))?;
-    let what = called::wrong(judge, region, subscriptions.as_ref())
+    let what = called_subscriptions::wrong(judge, region, subscriptions.as_ref())
         .or_else(|| called_names::wrong(judge, region, retained.as_ref()));
     if let Some(what) = what {
         return Err(wrong(&what, region));
@@ -191,14 +188,18 @@ fn openings(judge: &StoreJudge, seed: u64, count: usize) -> impl Iterator<Item =
     let mut random = Random(seed);
     (0..count).map(move |_| {
         let kind = random.of(&[Kind::Subscriptions, Kind::Retained]);
-        let mut capacity = |last: u64| match random.below(40) {
+        let mut capacity = |last: usize| match random.below(40) {
             0 => 0,
             1 => last,
             2 => last + 1,
-            3 => random.next(),
-            _ => 1 + random.next() % 5,
+            3 => random.next() as usize,
+            _ => 1 + random.below(5),
         };
-        let most = [capacity(4096), capacity(8192), capacity(8192)];
+        let most = Counts {
+            nodes: capacity(4096),
+            pairs: capacity(8192),
+            cells: capacity(8192),
+        };
         let needed = needed(most).unwrap_or(400);
         let by = random.of(&[0, 1, 17, 100]);
         let length = match random.once_in(2) {
@@ -211,19 +212,15 @@ fn openings(judge: &StoreJudge, seed: u64, count: usize) -> impl Iterator<Item =
 }
 
 /// The bytes needed, where the capacities are in range.
-fn needed([nodes, pairs, cells]: [u64; 3]) -> Option<usize> {
-    let in_range = |last: u64, capacity: u64| (1..=last).contains(&capacity);
-    let are_in_range = in_range(4096, nodes) && in_range(8192, pairs) && in_range(8192, cells);
-    are_in_range.then(|| (64 + 17 * (nodes + pairs + cells)) as usize)
+fn needed(most: Counts) -> Option<usize> {
+    most.are_in_range().then(|| most.needed())
 }
 
 /// Opens a region: a store that holds nothing, with the same bytes behind its header; or refused
 /// 10, with all bytes as they were.
-fn opened(judge: &StoreJudge, kind: Kind, most: [u64; 3], region: &[u8]) -> Case {
-    let refused = Err(Refusal {
-        number: BAD_SIZE,
-        place: 0,
-    });
+fn opened(judge: &StoreJudge, kind: Kind, most: Counts, region: &[u8]) -> Case {
+    let refused = refused(BAD_SIZE);
+    let none = stores::counts(&[]);
     let needed = needed(most);
     let found = regions::needed(most);
     if found != needed.map_or(refused, |bytes| Ok(bytes as u64)) {
@@ -235,13 +232,6 @@ fn opened(judge: &StoreJudge, kind: Kind, most: [u64; 3], region: &[u8]) -> Case
     let fits = needed.is_some_and(|bytes| bytes <= region.len());
     let mut expected = region.to_vec();
     if fits {
-        let [nodes, pairs, cells] = most.map(|capacity| capacity as usize);
-        let none = stores::counts(&[]);
-        let most = Counts {
-            nodes,
-            pairs,
-            cells,
-        };
         expected[..18].copy_from_slice(&stores::header(kind, most, none, 0));
     }
     if answer != if fits { Ok(0) } else { refused } || after != expected {
@@ -249,7 +239,7 @@ fn opened(judge: &StoreJudge, kind: Kind, most: [u64; 3], region: &[u8]) -> Case
         return Err(wrong(&what, &after));
     }
     match fits {
-        true => known(judge, &after, (kind, stores::counts(&[]))),
+        true => known(judge, &after, (kind, none)),
         false => compared(judge, &after, None),
     }
 }

@@ -4,7 +4,7 @@ use std::rc::Rc;
 
 use crate::made_stores::{self, Made};
 use crate::random::Random;
-use crate::stores::{self, Counts, Held, Kind, Node, Path, HEADER, UNIT};
+use crate::stores::{self, Counts, Held, Kind, Node, Path, Stored, HEADER, UNIT};
 
 /// A region, and the nodes of the store that it was before the damage.
 pub struct Damaged {
@@ -154,10 +154,10 @@ fn damage(random: &mut Random, made: &Made, region: &mut Vec<u8>) {
 fn alone(kind: Kind, path: &Path) -> Made {
     let own = match kind {
         Kind::Subscriptions => Held::Value(7),
-        Kind::Retained => Held::Record {
+        Kind::Retained => Held::Record(Stored {
             handle: 7,
             moment: None,
-        },
+        }),
     };
     let mut row = Vec::new();
     stores::hold(&mut row, path, own);

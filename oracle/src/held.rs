@@ -5,10 +5,13 @@ use std::cmp::Ordering;
 use std::collections::{BTreeMap, BTreeSet};
 
 use crate::answers::number::*;
-use crate::answers::{Answer, Refusal, TopicCalls};
+use crate::answers::{refused, Answer, TopicCalls};
+use crate::buffers;
+use crate::random::Random;
 use crate::reference::HONEST;
-use crate::room::{levels, Room};
+use crate::room::Room;
 use crate::stores::Counts;
+use crate::texts::levels;
 use crate::twists::Twist;
 
 /// A filter with its values.
@@ -18,10 +21,6 @@ pub type Record = (Vec<u8>, Vec<u32>);
 pub struct Held {
     room: Room,
     values: BTreeMap<Vec<u8>, BTreeSet<u32>>,
-}
-
-pub fn refused(number: u64) -> Answer {
-    Err(Refusal { number, place: 0 })
 }
 
 impl Held {
@@ -54,7 +53,13 @@ impl Held {
         values.is_some_and(|values| values.contains(&value))
     }
 
-    /// All pairs, to choose one.
+    /// One of the pairs; none where nothing is held.
+    pub fn some(&self, random: &mut Random) -> Option<(Vec<u8>, u32)> {
+        let (filter, value) = self.all().nth(random.below(self.room.pairs().max(1)))?;
+        Some((filter.clone(), value))
+    }
+
+    /// All pairs, in the order of the filters' texts.
     pub fn all(&self) -> impl Iterator<Item = (&Vec<u8>, u32)> {
         let of_filter = |(filter, values): (_, &BTreeSet<u32>)| {
             let pairs: Vec<_> = values.iter().map(|value| (filter, *value)).collect();
@@ -161,17 +166,18 @@ impl Held {
     }
 }
 
-/// Document 01's listing record.
-pub fn written(records: &[Record]) -> Vec<u8> {
-    let mut out = Vec::new();
-    for (filter, values) in records {
-        out.extend([0x46, 0x4D]);
-        out.extend((filter.len() as u16).to_be_bytes());
-        out.extend(filter);
+impl buffers::Record for Record {
+    const MARK: [u8; 2] = [0x46, 0x4D];
+
+    fn text(&self) -> &[u8] {
+        &self.0
+    }
+
+    fn write_rest(&self, out: &mut Vec<u8>) {
+        let values = &self.1;
         out.extend((values.len() as u16).to_be_bytes());
         values
             .iter()
             .for_each(|value| out.extend(value.to_be_bytes()));
     }
-    out
 }

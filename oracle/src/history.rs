@@ -90,6 +90,9 @@ const STAGES: [Stage; 6] = [
     },
 ];
 
+/// A buffer is longer than what is asked for by one of these, or shorter.
+pub const BUFFERS: [i64; 10] = [0, 0, 0, 1, 9, 300, -1, -1, -2, -5_000];
+
 /// What a call counts as: a change, a question, or neither.
 pub enum Counted {
     Change,
@@ -238,21 +241,4 @@ pub fn first_difference<T: Trial>(
         let found = (0..part).find_map(|_| history::<T>(&mut random, stage, twist, &mut tally));
         found.map(|(most, calls)| shrunk::<T>(most, twist, calls))
     })
-}
-
-/// None where what the library found is what a judge expects.
-pub fn differ<T: PartialEq>(
-    who: &str,
-    found: &T,
-    expected: &T,
-    words: impl Fn(&T) -> String,
-) -> Result<(), String> {
-    match found == expected {
-        true => Ok(()),
-        false => Err(format!(
-            "library {}, {who} {}",
-            words(found),
-            words(expected)
-        )),
-    }
 }

@@ -1,9 +1,8 @@
 //! Stores made at random from a seed, and trees that break one rule of a store each.
 
-use crate::answers::TopicCalls;
 use crate::random::Random;
-use crate::reference::HONEST;
-use crate::stores::{self, Counts, Held, Kind, Node, Path};
+use crate::store_judge::accepts;
+use crate::stores::{self, Counts, Held, Kind, Node, Path, Stored};
 
 /// Levels of filters and names. The long ones end just before and behind a unit and a cell.
 const LEVELS: &[&[u8]] = &[
@@ -40,14 +39,6 @@ impl Made {
     }
 }
 
-fn text_is_accepted(kind: Kind, path: &Path) -> bool {
-    let text = path.join(&b'/');
-    match kind {
-        Kind::Subscriptions => HONEST.is_valid_topic_filter(&text).is_ok(),
-        Kind::Retained => HONEST.is_valid_topic_name(&text).is_ok(),
-    }
-}
-
 fn held(random: &mut Random, kind: Kind) -> Held {
     let number = match random.below(3) {
         0 => random.next() as u32,
@@ -56,10 +47,10 @@ fn held(random: &mut Random, kind: Kind) -> Held {
     let moment = random.once_in(2).then(|| random.next() >> random.below(64));
     match kind {
         Kind::Subscriptions => Held::Value(number),
-        Kind::Retained => Held::Record {
+        Kind::Retained => Held::Record(Stored {
             handle: number,
             moment,
-        },
+        }),
     }
 }
 
@@ -84,7 +75,7 @@ pub fn store(random: &mut Random, kind: Kind, size: usize, depth: usize) -> Made
     for _ in 0..random.below(size + 1) {
         let depth = 1 + random.below(depth);
         let path = path(random, kind, depth);
-        if text_is_accepted(kind, &path) {
+        if accepts(kind, &path.join(&b'/')) {
             stores::hold(&mut row, &path, held(random, kind));
         }
     }

@@ -1,12 +1,19 @@
 //! The comparison harness of the library: arguments, judges and totals.
 
 mod answers;
+#[cfg_attr(not(feature = "rust"), path = "beside_none.rs")]
+mod beside;
+mod buffers;
 mod called;
 mod called_names;
+mod called_subscriptions;
+#[path = "../../include/cjumbradi.rs"]
+mod cjumbradi;
 mod compare;
 mod counts;
 mod damage;
 mod damaged;
+mod differ;
 #[cfg(feature = "rust")]
 mod differences;
 mod examples;
@@ -16,6 +23,7 @@ mod history;
 mod inputs;
 mod lent;
 mod library;
+mod lists;
 mod long;
 mod made_stores;
 #[cfg(feature = "rust")]
@@ -25,6 +33,7 @@ mod mutation;
 mod name_histories;
 mod named;
 mod random;
+mod random_inputs;
 mod reference;
 mod regions;
 mod report;
@@ -34,6 +43,7 @@ mod room;
 mod rust;
 mod self_test;
 mod shrink;
+mod sides;
 mod stages;
 mod store_examples;
 mod store_judge;

@@ -2,10 +2,10 @@
 //! It is loaded where it is there; it judges pairs of a valid filter and a valid name.
 
 use std::ffi::{c_char, c_int, c_void, CString};
+use std::mem;
 use std::sync::OnceLock;
-use std::{mem, ptr};
 
-use crate::answers::{in_words, Answer, TextAnswers};
+use crate::answers::{Answer, TextAnswers};
 use crate::compare::{Difference, Judge};
 
 extern "C" {
@@ -28,8 +28,7 @@ impl Mosquitto {
                 return None;
             }
             let found = dlsym(library, c"mosquitto_topic_matches_sub".as_ptr());
-            (found != ptr::null_mut())
-                .then(|| Mosquitto(mem::transmute::<*mut c_void, Matches>(found)))
+            (!found.is_null()).then(|| Mosquitto(mem::transmute::<*mut c_void, Matches>(found)))
         }
     }
 
@@ -56,12 +55,8 @@ impl Judge for Mosquitto {
 
     fn pair(&self, filter: &[u8], name: &[u8], found: Answer) -> Option<Difference> {
         let takes = u64::from(found.is_ok().then(|| self.takes(filter, name)).flatten()?);
-        (found != Ok(takes)).then(|| Difference {
-            call: "matches",
-            level: None,
-            judge: "mosquitto",
-            found: in_words(&found),
-            expected: takes.to_string(),
+        Difference::unless(found == Ok(takes), ("mosquitto", "matches"), &found, || {
+            takes.to_string()
         })
     }
 }

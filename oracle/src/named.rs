@@ -4,18 +4,15 @@
 use std::collections::BTreeMap;
 
 use crate::answers::number::*;
-use crate::answers::{Answer, TopicCalls};
-use crate::held::refused;
+use crate::answers::{refused, Answer, TopicCalls};
+use crate::buffers;
+use crate::cjumbradi::set;
+use crate::random::Random;
 use crate::reference::HONEST;
-use crate::room::{levels, Room};
-use crate::stores::Counts;
+use crate::room::Room;
+use crate::stores::{Counts, Stored};
+use crate::texts::levels;
 use crate::twists::Twist;
-
-#[derive(Clone, Copy, Debug, PartialEq, Eq)]
-pub struct Stored {
-    pub handle: u32,
-    pub moment: Option<u64>,
-}
 
 /// A name with its handle and the time that is left.
 pub type Record = (Vec<u8>, u32, u64);
@@ -58,7 +55,12 @@ impl Named {
         self.room.is(twist)
     }
 
-    /// All names, to choose one.
+    /// One of the names; none where nothing is held.
+    pub fn some(&self, random: &mut Random) -> Option<(Vec<u8>, Stored)> {
+        self.all().nth(random.below(self.room.pairs().max(1)))
+    }
+
+    /// All names, in their order.
     pub fn all(&self) -> impl Iterator<Item = (Vec<u8>, Stored)> + '_ {
         let text = |(levels, stored): (&Vec<Vec<u8>>, &Stored)| (levels.join(&b'/'), *stored);
         self.names.iter().map(text)
@@ -76,16 +78,18 @@ impl Named {
             }
         }
         if self.is(Twist::SetDoesNothing) {
-            return Ok(if old.is_some() { 2 } else { 1 });
+            return Ok(old.map_or(set::NEW, |_| set::REPLACED));
         }
         self.names.insert(key(name), stored);
         match old {
             None => {
                 self.room.hold(name);
-                Ok(1)
+                Ok(set::NEW)
             }
-            Some(old) if self.is(Twist::ReplacedExpiredIsNew) && self.is_expired(old, now) => Ok(1),
-            Some(_) => Ok(2),
+            Some(old) if self.is(Twist::ReplacedExpiredIsNew) && self.is_expired(old, now) => {
+                Ok(set::NEW)
+            }
+            Some(_) => Ok(set::REPLACED),
         }
     }
 
@@ -94,11 +98,11 @@ impl Named {
             return refused(TOO_DEEP);
         }
         if old.is_none() || self.is(Twist::ErasedIsNotHeld) {
-            return Ok(4);
+            return Ok(set::NOT_HELD);
         }
         self.names.remove(&key(name));
         self.room.release(name);
-        Ok(3)
+        Ok(set::ERASED)
     }
 
     fn is_expired(&self, stored: Stored, now: u64) -> bool {
@@ -130,10 +134,6 @@ impl Named {
         let skips = self.is(Twist::CountSkipsExpired);
         let counted = |stored: &&Stored| !skips || !self.is_expired(**stored, now);
         Ok(self.names.values().filter(counted).count() as u64)
-    }
-
-    pub fn nodes(&self) -> usize {
-        self.room.nodes()
     }
 
     fn left(&self, stored: Stored, now: u64) -> u64 {
@@ -190,15 +190,16 @@ impl Named {
     }
 }
 
-/// Document 01's retained record.
-pub fn written(records: &[Record]) -> Vec<u8> {
-    let mut out = Vec::new();
-    for (name, handle, left) in records {
-        out.extend([0x52, 0x56]);
-        out.extend((name.len() as u16).to_be_bytes());
-        out.extend(name);
+impl buffers::Record for Record {
+    const MARK: [u8; 2] = [0x52, 0x56];
+
+    fn text(&self) -> &[u8] {
+        &self.0
+    }
+
+    fn write_rest(&self, out: &mut Vec<u8>) {
+        let (_, handle, left) = self;
         out.extend(handle.to_be_bytes());
         out.extend(left.to_be_bytes());
     }
-    out
 }

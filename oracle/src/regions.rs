@@ -1,69 +1,82 @@
-//! The library's calls on regions, through its C interface, each with bytes in front of the region that
-//! must stay as they are, and a guarded page behind it.
+//! The library's calls on regions of either kind, through its C interface.
+//!
+//! In front of each region stand bytes that must stay as they are, and behind it is a guarded page.
 
 use std::fmt;
 
-use crate::answers::{in_words, Answer};
-use crate::counts::{count, Called};
+use crate::answers::{in_words, Answer, Refusal};
+use crate::cjumbradi::*;
+use crate::counts::Called;
 use crate::lent::Lent;
-use crate::library::{answer, UNWRITTEN};
-use crate::stores::Kind;
+use crate::library::{asked, UNWRITTEN};
+use crate::stores::{Counts, Kind};
 
-/// A call that reads a region and hands one number back.
-type CountCall = unsafe extern "C" fn(*const u8, usize, *mut u64) -> u64;
-
-/// A call that makes a region an empty store.
-type OpenCall = unsafe extern "C" fn(*mut u8, usize, u64, u64, u64, *mut u64) -> u64;
-
-#[link(name = "cjumbradi", kind = "static")]
-extern "C" {
-    fn cjumbradi_needed(nodes: u64, pairs: u64, cells: u64, bytes: *mut u64) -> u64;
-    fn cjumbradi_open_subscriptions(
-        region: *mut u8,
-        region_len: usize,
-        nodes: u64,
-        pairs: u64,
-        cells: u64,
-        place: *mut u64,
-    ) -> u64;
-    fn cjumbradi_open_retained(
-        region: *mut u8,
-        region_len: usize,
-        nodes: u64,
-        pairs: u64,
-        cells: u64,
-        place: *mut u64,
-    ) -> u64;
-    fn cjumbradi_nodes_size(region: *const u8, region_len: usize, value: *mut u64) -> u64;
-    fn cjumbradi_values_size(region: *const u8, region_len: usize, value: *mut u64) -> u64;
-    fn cjumbradi_count(region: *const u8, region_len: usize, value: *mut u64) -> u64;
-}
-
-/// How many bytes stand in front of a region, and what they are. Behind it is a guarded page.
+/// How many bytes stand in front of a region, and what they are.
 const BEFORE: usize = 32;
 const GUARD: u8 = 0xA5;
 
-/// A region with its guards.
+/// A region with its guards, which is asked and changed.
 pub struct Guarded(Lent);
+
+/// How many bytes and records a call wrote into a buffer.
+#[derive(Clone, Copy, Debug, PartialEq, Eq)]
+pub struct Listed {
+    pub bytes: u64,
+    pub records: u64,
+}
 
 impl Guarded {
     pub fn new(region: &[u8]) -> Self {
         Guarded(Lent::new(&[&[GUARD; BEFORE][..], region].concat()))
     }
 
-    pub fn region(&mut self) -> &mut [u8] {
+    /// The region; none where the bytes in front of it are not as they were.
+    pub fn region(&self) -> Option<&[u8]> {
+        let (before, region) = self.0.split_at(BEFORE);
+        before.iter().all(|byte| *byte == GUARD).then_some(region)
+    }
+
+    /// The region as it is lent. It can be written also where a call only reads, so that a call that
+    /// does write is noticed and not undefined.
+    pub fn lent(&mut self) -> &mut [u8] {
         &mut self.0[BEFORE..]
     }
 
-    /// The region; none where the bytes in front of it are not as they were.
-    pub fn inner(&self) -> Option<&[u8]> {
-        let (before, inner) = self.0.split_at(BEFORE);
-        before.iter().all(|byte| *byte == GUARD).then_some(inner)
+    pub fn size(&mut self, called: Called, call: SizeCall) -> Answer {
+        let lent = self.lent();
+        // SAFETY: the pointer and the length are those of a slice, and the size outlives the call.
+        asked(called, |size| unsafe {
+            call(lent.as_mut_ptr(), lent.len(), size)
+        })
     }
 
-    fn is(&self, region: &[u8]) -> bool {
-        self.inner() == Some(region)
+    /// Makes a call that is lent the region and a buffer, and hands back bytes and records. A refusal
+    /// hands back 0 records, or this is no answer.
+    pub fn list(
+        &mut self,
+        called: Called,
+        out: &mut [u8],
+        call: impl FnOnce(&mut [u8], &mut [u8], &mut u64, &mut u64) -> u64,
+    ) -> Answer<Listed> {
+        let mut lent_out = Lent::new(out);
+        let mut records = UNWRITTEN;
+        let bytes = asked(called, |bytes| {
+            call(self.lent(), &mut lent_out, bytes, &mut records)
+        });
+        out.copy_from_slice(&lent_out);
+        with_zero(bytes, records).map(|bytes| Listed { bytes, records })
     }
+}
+
+/// The answer of a call, where a refusal hands back 0 as the number beside its place.
+pub fn with_zero<T>(answer: Answer<T>, beside: u64) -> Answer<T> {
+    answer.map_err(|refusal| match beside {
+        0 => refusal,
+        _ => Refusal {
+            place: UNWRITTEN,
+            ..refusal
+        },
+    })
 }
 
 /// What the three calls that count answer.
@@ -82,58 +95,40 @@ impl fmt::Display for Counted {
     }
 }
 
-pub fn needed([nodes, pairs, cells]: [u64; 3]) -> Answer {
-    count(Called::Needed);
-    let mut bytes = UNWRITTEN;
-    // SAFETY: `bytes` outlives the call.
-    let number = unsafe { cjumbradi_needed(nodes, pairs, cells, &mut bytes) };
-    answer(number, bytes, bytes)
+pub fn needed(most: Counts) -> Answer {
+    let [nodes, pairs, cells] = most.numbers();
+    // SAFETY: the number of bytes outlives the call.
+    asked(Called::Needed, |bytes| unsafe {
+        cjumbradi_needed(nodes, pairs, cells, bytes)
+    })
 }
 
 /// What the calls that count answer about a region; none where they wrote to it or beside it.
 pub fn counted(region: &[u8]) -> Option<Counted> {
     let mut guarded = Guarded::new(region);
-    let mut ask = |called: Called, call: CountCall| {
-        count(called);
-        let lent = guarded.region();
-        let mut value = UNWRITTEN;
-        // SAFETY: the pointer and the length are those of a slice that can be written, so that a
-        // call that does write is noticed and not undefined; `value` outlives the call.
-        let number = unsafe { call(lent.as_mut_ptr(), lent.len(), &mut value) };
-        answer(number, value, value)
-    };
+    let [nodes_size, values_size] = guarded.sizes();
+    let count = guarded.count();
     let found = Counted {
-        nodes_size: ask(Called::NodesSize, cjumbradi_nodes_size),
-        values_size: ask(Called::ValuesSize, cjumbradi_values_size),
-        count: ask(Called::Count, cjumbradi_count),
+        nodes_size,
+        values_size,
+        count,
     };
-    guarded.is(region).then_some(found)
+    (guarded.region() == Some(region)).then_some(found)
 }
 
 /// Opens a region. The answer, and the region then; none where bytes beside it were written.
-pub fn opened(kind: Kind, region: &[u8], most: [u64; 3]) -> Option<(Answer, Vec<u8>)> {
+pub fn opened(kind: Kind, region: &[u8], most: Counts) -> Option<(Answer, Vec<u8>)> {
     let call: OpenCall = match kind {
         Kind::Subscriptions => cjumbradi_open_subscriptions,
         Kind::Retained => cjumbradi_open_retained,
     };
-    count(Called::Open);
+    let [nodes, pairs, cells] = most.numbers();
     let mut guarded = Guarded::new(region);
-    let [nodes, pairs, cells] = most;
-    let lent = guarded.region();
-    let mut value = UNWRITTEN;
-    // SAFETY: as in `counted`, and the slice may be written.
-    let number = unsafe {
-        call(
-            lent.as_mut_ptr(),
-            lent.len(),
-            nodes,
-            pairs,
-            cells,
-            &mut value,
-        )
-    };
-    let after = guarded.region().to_vec();
-    guarded
-        .is(&after)
-        .then(|| (answer(number, value, value), after))
+    let lent = guarded.lent();
+    // SAFETY: as in `size`.
+    let answer = asked(Called::Open, |place| unsafe {
+        call(lent.as_mut_ptr(), lent.len(), nodes, pairs, cells, place)
+    });
+    let after = guarded.region()?.to_vec();
+    Some((answer, after))
 }

@@ -8,6 +8,7 @@ use crate::answers::TopicCalls;
 use crate::mutation::Mutation;
 use crate::reference::{Reference, HONEST};
 use crate::stores::{self, Counts};
+use crate::texts::levels;
 use crate::twists::Twist;
 
 /// A node is a list of leading levels, kept as their text with the number of pairs that need it.
@@ -18,10 +19,6 @@ pub struct Room {
     nodes: BTreeMap<Vec<u8>, usize>,
     pairs: usize,
     cells: usize,
-}
-
-pub fn levels(text: &[u8]) -> Vec<&[u8]> {
-    text.split(|byte| *byte == b'/').collect()
 }
 
 /// The texts of the non-empty lists of leading levels.

@@ -43,13 +43,7 @@ fn unless<T: Display>(
     found: &Answer<T>,
     expected: impl FnOnce() -> String,
 ) -> Option<Difference> {
-    (!is_fine).then(|| Difference {
-        call,
-        level: None,
-        judge: "Rust",
-        found: in_words(found),
-        expected: expected(),
-    })
+    Difference::unless(is_fine, ("Rust", call), found, expected)
 }
 
 /// None where the answer is the refusal of that number, at any place.

@@ -16,7 +16,7 @@ use crate::stages::{stages, QUICK};
 use crate::store_examples;
 use crate::store_judge::{self, StoreJudge};
 use crate::subscription_histories::Subscriptions;
-use crate::twists::{self, Twist};
+use crate::twists::{Twist, OF_EITHER, OF_NAMES, OF_SUBSCRIPTIONS};
 use crate::{judges, rust_judge, Totals};
 
 pub fn run(seed: u64) -> Totals {
@@ -45,11 +45,8 @@ pub fn run(seed: u64) -> Totals {
     }
     totals
         .and(of_regions(seed))
-        .and(of_histories::<Subscriptions>(
-            twists::of_subscriptions(),
-            seed,
-        ))
-        .and(of_histories::<Names>(twists::of_names(), seed))
+        .and(of_histories::<Subscriptions>(OF_SUBSCRIPTIONS, seed))
+        .and(of_histories::<Names>(OF_NAMES, seed))
 }
 
 /// The judge of regions: what it writes down, an honest run, and a judge without each condition.
@@ -64,7 +61,7 @@ fn of_regions(seed: u64) -> Totals {
     totals.count((!is_left).then(|| "no damage leaves another store".to_string()));
     for condition in store_judge::CONDITIONS {
         let judge = StoreJudge {
-            left_out: Some(condition),
+            left_out: Some(*condition),
         };
         let noticed = damage::first_difference(&judge, seed);
         totals.count(match noticed {
@@ -78,14 +75,15 @@ fn of_regions(seed: u64) -> Totals {
     totals
 }
 
-/// The model of what is held: an honest run, and every rule of it broken.
-fn of_histories<T: Trial>(twists: impl Iterator<Item = Twist>, seed: u64) -> Totals {
+/// The model of what is held: an honest run, and every rule of it broken, those of its own kind of
+/// store last.
+fn of_histories<T: Trial>(of_its_own: &[Twist], seed: u64) -> Totals {
     let mut totals = Totals::default();
     let noise = history::first_difference::<T>(None, seed);
     totals.count(
         noise.map(|(calls, wrong)| format!("an honest history differs, {calls:?}: {wrong}")),
     );
-    for twist in twists {
+    for twist in [OF_EITHER, of_its_own].concat() {
         totals.count(match history::first_difference::<T>(Some(twist), seed) {
             None => Some(format!("{twist:?} of {} is not noticed", T::KIND)),
             Some((calls, wrong)) => {

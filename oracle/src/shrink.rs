@@ -3,6 +3,7 @@
 use std::iter::successors;
 
 use crate::inputs::Input;
+use crate::texts::levels;
 
 /// How many bytes all tries together may have. It bounds the time that a long input takes.
 const BUDGET: usize = 16 << 20;
@@ -123,7 +124,7 @@ fn without_levels(input: &Input, first: usize, count: usize) -> Option<Input> {
         return None;
     };
     let without = |text: &[u8]| {
-        let mut levels: Vec<&[u8]> = text.split(|byte| *byte == b'/').collect();
+        let mut levels = levels(text);
         let is_some = count < levels.len() && first + count <= levels.len();
         is_some.then(|| {
             levels.drain(first..first + count);

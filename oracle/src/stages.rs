@@ -1,7 +1,7 @@
 //! Which inputs make up a run, stage by stage.
 
 use crate::inputs::{self, Input, LEVEL_SYMBOLS, SYMBOLS, UTF8_EDGES};
-use crate::{long, random};
+use crate::{long, random_inputs};
 
 /// A named set of inputs.
 pub struct Stage {
@@ -66,7 +66,7 @@ fn pairs(name: &'static str, pairs: impl Iterator<Item = Input> + 'static) -> St
 pub fn stages(effort: &Effort, seed: u64) -> Vec<Stage> {
     vec![
         pairs("valid pairs", inputs::valid_pairs(effort.valid_pairs)),
-        pairs("random pairs", random::pairs(seed, effort.random)),
+        pairs("random pairs", random_inputs::pairs(seed, effort.random)),
         texts("short texts", inputs::spelled(SYMBOLS, effort.short_texts)),
         texts(
             "texts of / + # $ a",
@@ -92,7 +92,7 @@ pub fn stages(effort: &Effort, seed: u64) -> Vec<Stage> {
             "one oddity at each place",
             inputs::oddities(effort.oddities),
         ),
-        texts("random texts", random::texts(seed, effort.random)),
+        texts("random texts", random_inputs::texts(seed, effort.random)),
         pairs(
             "pairs with faults",
             inputs::faulty_pairs(effort.faulty_pairs),
@@ -100,7 +100,7 @@ pub fn stages(effort: &Effort, seed: u64) -> Vec<Stage> {
         texts("long texts", long::texts().step_by(effort.one_in)),
         texts(
             "random long texts",
-            random::long_texts(seed, effort.random_long),
+            random_inputs::long_texts(seed, effort.random_long),
         ),
         pairs("long pairs", long::pairs().step_by(effort.one_in)),
     ]

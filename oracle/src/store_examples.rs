@@ -1,7 +1,7 @@
 //! Two small stores with their bytes written out by hand from docs/STORE.md. What the harness
 //! writes down itself is held against them.
 
-use crate::stores::{self, Counts, Held, Kind};
+use crate::stores::{self, Counts, Held, Kind, Stored};
 
 /// `a/+` with the values 7 and 9, in a store for 2 nodes, 2 pairs and 1 cell: what is in use.
 const SUBSCRIPTIONS: [(usize, &[u8]); 6] = [
@@ -52,10 +52,10 @@ fn written(kind: Kind, cells: usize, path: &[&[u8]], held: &[Held]) -> Vec<u8> {
 /// The examples, each with whether the harness writes it down so.
 pub fn written_down() -> [(&'static str, bool); 2] {
     let values = [Held::Value(9), Held::Value(7)];
-    let record = Held::Record {
+    let record = Held::Record(Stored {
         handle: 5,
         moment: Some(258),
-    };
+    });
     let subscriptions = written(Kind::Subscriptions, 1, &[b"a", b"+"], &values);
     let retained = written(Kind::Retained, 1, &[b"a"], &[record]);
     [

@@ -5,52 +5,36 @@
 use std::collections::BTreeSet;
 
 use crate::answers::TopicCalls;
+use crate::lists::lists;
 use crate::reference::HONEST;
-use crate::stores::{self, Counts, Held, Kind, Node, Path, HEADER, UNIT};
+use crate::stores::{self, Counts, Held, Kind, Node, Path, Stored, HEADER, UNIT};
+use crate::texts::levels;
 
-/// The conditions, each of which a wrong judge may leave out. (That a `#` has no child is none of
-/// them: it follows from the texts that are accepted, and no run can notice a judge without it.)
-#[derive(Clone, Copy, Debug, PartialEq, Eq)]
-pub enum Condition {
-    CapacitiesInRange,
-    LongEnough,
-    MarkAndShape,
-    KindTold,
-    CountsTold,
-    MarksAsWritten,
-    UnitsAsWritten,
-    NodesFit,
-    PairsFit,
-    CellsFit,
-    LevelsAscend,
-    ValuesAscend,
-    OneRecord,
-    NodesAreNeeded,
-    TextsAccepted,
-    AtMost128Levels,
+lists! {
+    /// The conditions, each of which a wrong judge may leave out. (That a `#` has no child is none of
+    /// them: it follows from the texts that are accepted, and no run can notice a judge without it.)
+    Condition {
+        /// All of them.
+        CONDITIONS: [
+            CapacitiesInRange,
+            LongEnough,
+            MarkAndShape,
+            KindTold,
+            CountsTold,
+            MarksAsWritten,
+            UnitsAsWritten,
+            NodesFit,
+            PairsFit,
+            CellsFit,
+            LevelsAscend,
+            ValuesAscend,
+            OneRecord,
+            NodesAreNeeded,
+            TextsAccepted,
+            AtMost128Levels,
+        ];
+    }
 }
-
-pub const CONDITIONS: [Condition; 16] = {
-    use Condition::*;
-    [
-        CapacitiesInRange,
-        LongEnough,
-        MarkAndShape,
-        KindTold,
-        CountsTold,
-        MarksAsWritten,
-        UnitsAsWritten,
-        NodesFit,
-        PairsFit,
-        CellsFit,
-        LevelsAscend,
-        ValuesAscend,
-        OneRecord,
-        NodesAreNeeded,
-        TextsAccepted,
-        AtMost128Levels,
-    ]
-};
 
 /// The judge, honest where no condition is left out.
 #[derive(Clone, Copy, Debug)]
@@ -90,10 +74,10 @@ fn held_in(kind: Kind, unit: &[u8]) -> Held {
         Kind::Retained => {
             let has_moment = unit.get(4) == Some(&1);
             let moment = has_moment.then(|| number(part(unit, 8, 8)));
-            Held::Record {
+            Held::Record(Stored {
                 handle: first,
                 moment,
-            }
+            })
         }
     }
 }
@@ -157,14 +141,18 @@ fn levels_ascend(row: &[Node]) -> bool {
     ascends(row.iter().map(|node| &node.level)) && row.iter().all(|node| levels_ascend(&node.below))
 }
 
+/// Whether a store of the kind may hold something under a text.
+pub fn accepts(kind: Kind, text: &[u8]) -> bool {
+    match kind {
+        Kind::Subscriptions => HONEST.is_valid_topic_filter(text).is_ok(),
+        Kind::Retained => HONEST.is_valid_topic_name(text).is_ok(),
+    }
+}
+
 fn is_accepted(kind: Kind, path: &Path) -> bool {
     let text = path.join(&b'/');
-    let is_split = text.split(|byte| *byte == b'/').eq(path.iter());
-    let test = match kind {
-        Kind::Subscriptions => HONEST.is_valid_topic_filter(&text),
-        Kind::Retained => HONEST.is_valid_topic_name(&text),
-    };
-    is_split && test.is_ok()
+    let is_split = levels(&text).iter().eq(path.iter());
+    is_split && accepts(kind, &text)
 }
 
 impl StoreJudge {
@@ -204,13 +192,8 @@ impl StoreJudge {
 
     /// The header before its counts, and the region's length.
     fn is_begun(&self, kind: Kind, most: Counts, region: &[u8]) -> bool {
-        let in_range = |most: usize, number: usize| (1..=most).contains(&number);
         region.len() >= HEADER
-            && self.sees(Condition::CapacitiesInRange, || {
-                in_range(4096, most.nodes)
-                    && in_range(8192, most.pairs)
-                    && in_range(8192, most.cells)
-            })
+            && self.sees(Condition::CapacitiesInRange, || most.are_in_range())
             && self.sees(Condition::LongEnough, || region.len() >= most.needed())
             && self.sees(Condition::MarkAndShape, || {
                 region[..2] == [0x43, 0x4A] && region[3] == 1

@@ -21,6 +21,17 @@ pub struct Counts {
 }
 
 impl Counts {
+    /// The three as the C interface takes them.
+    pub fn numbers(&self) -> [u64; 3] {
+        [self.nodes, self.pairs, self.cells].map(|count| count as u64)
+    }
+
+    /// Whether a store can have these capacities.
+    pub fn are_in_range(&self) -> bool {
+        let in_range = |last: usize, capacity: usize| (1..=last).contains(&capacity);
+        in_range(4096, self.nodes) && in_range(8192, self.pairs) && in_range(8192, self.cells)
+    }
+
     pub fn sum(&self) -> usize {
         self.nodes + self.pairs + self.cells
     }
@@ -31,11 +42,18 @@ impl Counts {
     }
 }
 
+/// The record of a name: its handle, and the moment at which it expires, if it does.
+#[derive(Clone, Copy, Debug, PartialEq, Eq, PartialOrd, Ord)]
+pub struct Stored {
+    pub handle: u32,
+    pub moment: Option<u64>,
+}
+
 /// What a node holds: a value of a filter, or the record of a name.
 #[derive(Clone, Copy, Debug, PartialEq, Eq, PartialOrd, Ord)]
 pub enum Held {
     Value(u32),
-    Record { handle: u32, moment: Option<u64> },
+    Record(Stored),
 }
 
 /// A node of the tree: its level, what it holds, and the row below it.
@@ -112,7 +130,7 @@ fn unit(held: Held) -> [u8; UNIT] {
     let mut unit = [0; UNIT];
     match held {
         Held::Value(value) => unit[..4].copy_from_slice(&value.to_be_bytes()),
-        Held::Record { handle, moment } => {
+        Held::Record(Stored { handle, moment }) => {
             unit[..4].copy_from_slice(&handle.to_be_bytes());
             unit[4] = u8::from(moment.is_some());
             unit[8..].copy_from_slice(&moment.unwrap_or(0).to_be_bytes());
@@ -180,7 +198,7 @@ pub fn hold(row: &mut Vec<Node>, path: &[Vec<u8>], held: Held) {
     }
     match held {
         Held::Value(_) => node.own.push(held),
-        Held::Record { .. } => node.own = vec![held],
+        Held::Record(_) => node.own = vec![held],
     }
     node.own.sort();
     node.own.dedup();

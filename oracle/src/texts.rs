@@ -55,9 +55,14 @@ pub fn wide_text(random: &mut Random) -> Vec<u8> {
     }
 }
 
+/// The levels of a text.
+pub fn levels(text: &[u8]) -> Vec<&[u8]> {
+    text.split(|byte| *byte == b'/').collect()
+}
+
 /// A filter out of a name's text: some levels become `+`, and the end `#`.
 pub fn filter(random: &mut Random, text: &[u8]) -> Vec<u8> {
-    let mut levels: Vec<&[u8]> = text.split(|byte| *byte == b'/').collect();
+    let mut levels = levels(text);
     for level in &mut levels {
         if random.once_in(5) {
             *level = b"+";
