@@ -1,4 +1,11 @@
-//! The lines of a table, and of a budget.
+//! The rows and lines of a table, and of a budget.
+
+/// What was measured of a workload, with its name and how many pairs or names it holds.
+pub struct Row<M> {
+    pub name: &'static str,
+    pub held: usize,
+    pub measured: M,
+}
 
 pub fn line(name: &str, cells: &[String]) {
     let cells: Vec<String> = cells.iter().map(|cell| format!("{cell:>13}")).collect();
@@ -22,11 +29,11 @@ pub fn ratio(ours: f64, rust: f64) -> String {
 }
 
 /// A budget, and the workloads that miss it.
-pub fn budget(what: &str, workloads: &[(&str, bool)]) {
-    let missed: Vec<&str> = workloads
+pub fn budget<M>(what: &str, rows: &[Row<M>], is_met: impl Fn(&M) -> bool) {
+    let missed: Vec<&str> = rows
         .iter()
-        .filter(|(_, is_met)| !is_met)
-        .map(|(name, _)| *name)
+        .filter(|row| !is_met(&row.measured))
+        .map(|row| row.name)
         .collect();
     match missed.is_empty() {
         true => println!("{what}: met"),

@@ -3,19 +3,26 @@
 //!     bench [--quick]
 
 mod agree;
+#[path = "../../include/cjumbradi.rs"]
+mod cjumbradi;
+#[path = "../../include/cjumbradi_known.rs"]
+mod cjumbradi_known;
 mod library;
 mod lines;
 mod measures;
 mod names;
+#[path = "../../oracle/src/random.rs"]
 mod random;
 mod read;
 mod rust;
+mod store;
 mod table;
 mod timing;
 mod workloads;
 
 use std::{env, process};
 
+use lines::Row;
 use measures::Effort;
 
 /// A run, and one that only shows that all works.
@@ -46,7 +53,11 @@ fn main() {
     for workload in workloads::all(effort.names) {
         let (mut library, rust) = agree::filled(&workload);
         let measured = measures::measured(&effort, &workload, &mut library, &rust);
-        rows.push((workload, measured));
+        rows.push(Row {
+            name: workload.name,
+            held: workload.pairs.len(),
+            measured,
+        });
     }
     table::print(&rows);
     names::run(&effort);

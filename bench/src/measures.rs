@@ -5,14 +5,15 @@ use std::time::Instant;
 
 use rmqtt::topic::Topic;
 
-use crate::library::{Calls, Library, KNOWN, TESTED};
 use crate::read::Read;
 use crate::rust::{parsed, Rust};
+use crate::store::Form::{self, Known, Tested};
+use crate::store::Store;
 use crate::timing::{medians, Timed};
 use crate::workloads::Workload;
 
-/// A test of a region takes so much longer than a question that a few of the names will do.
-const TESTED_NAMES: usize = 40;
+/// A test of a region takes so much longer than a question that a few of the calls will do.
+pub const TESTED_CALLS: usize = 40;
 
 /// So many of the pairs of a full store are taken away and put back.
 const RENEWED: usize = 200;
@@ -58,7 +59,7 @@ pub struct Measured {
 pub fn measured(
     effort: &Effort,
     workload: &Workload,
-    library: &mut Library,
+    library: &mut Store,
     rust: &Rust,
 ) -> Measured {
     let rounds = effort.rounds;
@@ -92,22 +93,22 @@ fn listing(
     rounds: usize,
     workload: &Workload,
     topics: &[Topic],
-    library: &mut Library,
+    library: &mut Store,
     rust: &Rust,
 ) -> Asked {
     let names = &workload.names;
-    let few = &names[..TESTED_NAMES];
-    let mut other = Library::new();
+    let few = &names[..TESTED_CALLS];
+    let mut other = Store::of_subscriptions();
     other.become_as(library);
     let four = [
         Timed::whole(names.len(), || {
             for name in names {
-                black_box(library.listing(KNOWN, name));
+                black_box(library.listing(Known, name));
             }
         }),
         Timed::whole(few.len(), || {
             for name in few {
-                black_box(other.listing(TESTED, name));
+                black_box(other.listing(Tested, name));
             }
         }),
         Timed::whole(names.len(), || {
@@ -128,19 +129,19 @@ fn is_match(
     rounds: usize,
     workload: &Workload,
     topics: &[Topic],
-    library: &Library,
+    library: &Store,
     rust: &Rust,
 ) -> Asked {
     let names = &workload.names;
-    let few = &names[..TESTED_NAMES];
-    let of = |calls: Calls, names: &[String]| {
+    let few = &names[..TESTED_CALLS];
+    let of = |form: Form, names: &[String]| {
         for name in names {
-            black_box(library.is_match(calls, name));
+            black_box(library.is_match(form, name));
         }
     };
     let four = [
-        Timed::whole(names.len(), || of(KNOWN, names)),
-        Timed::whole(few.len(), || of(TESTED, few)),
+        Timed::whole(names.len(), || of(Known, names)),
+        Timed::whole(few.len(), || of(Tested, few)),
         Timed::whole(names.len(), || {
             for name in names {
                 black_box(rust.is_match(name));
@@ -156,30 +157,30 @@ fn is_match(
 }
 
 /// Inserting into an empty store until it is full.
-fn inserts<'a>(calls: Calls, pairs: &'a [(String, u32)]) -> Timed<'a> {
-    let mut library = Library::new();
+fn inserts<'a>(form: Form, pairs: &'a [(String, u32)]) -> Timed<'a> {
+    let mut library = Store::of_subscriptions();
     Timed::part(pairs.len(), move || {
         library.empty();
         let began = Instant::now();
         for (filter, value) in pairs {
-            black_box(library.insert(calls, filter, *value));
+            black_box(library.insert(form, filter, *value));
         }
         began.elapsed()
     })
 }
 
 /// Removing from a full store until it is empty.
-fn removes<'a>(calls: Calls, pairs: &'a [(String, u32)]) -> Timed<'a> {
-    let mut full = Library::new();
+fn removes<'a>(form: Form, pairs: &'a [(String, u32)]) -> Timed<'a> {
+    let mut full = Store::of_subscriptions();
     for (filter, value) in pairs {
-        full.insert(KNOWN, filter, *value);
+        full.insert(Known, filter, *value);
     }
-    let mut library = Library::new();
+    let mut library = Store::of_subscriptions();
     Timed::part(pairs.len(), move || {
         library.become_as(&full);
         let began = Instant::now();
         for (filter, value) in pairs.iter().rev() {
-            black_box(library.remove(calls, filter, *value));
+            black_box(library.remove(form, filter, *value));
         }
         began.elapsed()
     })
@@ -215,26 +216,26 @@ fn rust_removes(pairs: &[(String, u32)]) -> Timed<'_> {
     })
 }
 
-fn changed(effort: &Effort, workload: &Workload, library: &Library) -> Changed {
+fn changed(effort: &Effort, workload: &Workload, library: &Store) -> Changed {
     let all = &workload.pairs;
     let pairs = &all[..all.len().min(effort.changed)];
     let few = &all[..RENEWED];
-    let mut full = Library::new();
+    let mut full = Store::of_subscriptions();
     full.become_as(library);
     let mut rust_full = rust_filled(all);
     let times = medians(
         effort.rounds,
         &mut [
-            inserts(KNOWN, pairs),
-            removes(KNOWN, pairs),
-            inserts(TESTED, pairs),
-            removes(TESTED, pairs),
+            inserts(Known, pairs),
+            removes(Known, pairs),
+            inserts(Tested, pairs),
+            removes(Tested, pairs),
             rust_inserts(pairs),
             rust_removes(pairs),
             Timed::whole(2 * few.len(), || {
                 for (filter, value) in few {
-                    black_box(full.remove(KNOWN, filter, *value));
-                    black_box(full.insert(KNOWN, filter, *value));
+                    black_box(full.remove(Known, filter, *value));
+                    black_box(full.insert(Known, filter, *value));
                 }
             }),
             Timed::whole(2 * few.len(), || {
@@ -258,12 +259,12 @@ fn changed(effort: &Effort, workload: &Workload, library: &Library) -> Changed {
 }
 
 /// The call that tells the nodes is the test of the region and one read.
-fn tested(rounds: usize, library: &Library) -> f64 {
+fn tested(rounds: usize, library: &Store) -> f64 {
     let nodes = library.nodes_size() as f64;
     let times = medians(
         rounds,
-        &mut [Timed::whole(TESTED_NAMES, || {
-            for _ in 0..TESTED_NAMES {
+        &mut [Timed::whole(TESTED_CALLS, || {
+            for _ in 0..TESTED_CALLS {
                 black_box(library.nodes_size());
             }
         })],

@@ -7,6 +7,7 @@ mod rust;
 mod table;
 mod workloads;
 
+use crate::lines::Row;
 use crate::measures::Effort;
 
 /// A record: its name, its handle and its remaining time.
@@ -40,7 +41,11 @@ pub fn run(effort: &Effort) {
     for workload in workloads::all(effort.names) {
         let (library, rust) = agree::filled(&workload);
         let measured = measures::measured(effort, &workload, &library, &rust);
-        rows.push((workload, measured));
+        rows.push(Row {
+            name: workload.name,
+            held: workload.names.len(),
+            measured,
+        });
     }
     table::print(&rows);
 }

@@ -3,11 +3,10 @@
 
 use std::{env, fs, thread};
 
-use crate::lines::{budget, head, line, ns, ratio};
+use crate::lines::{budget, head, line, ns, ratio, Row};
 use crate::measures::{Asked, Measured};
-use crate::workloads::Workload;
 
-type Row = (Workload, Measured);
+type Rows<'a> = &'a [Row<Measured>];
 
 /// What a listing may take at most of the Rust's time, what a change may, and what the test of a
 /// region may take for each node, in ns.
@@ -35,7 +34,7 @@ pub fn hasher() -> &'static str {
     }
 }
 
-pub fn print(rows: &[Row]) {
+pub fn print(rows: Rows) {
     held(rows);
     asked("listing", rows, |measured| &measured.listing);
     asked("is_match", rows, |measured| &measured.is_match);
@@ -43,16 +42,17 @@ pub fn print(rows: &[Row]) {
     budgets(rows);
 }
 
-fn held(rows: &[Row]) {
+fn held(rows: Rows) {
     head(
         "what is held",
         &["pairs", "nodes", "values/name", "test ns/node"],
     );
-    for (workload, measured) in rows {
+    for row in rows {
+        let measured = &row.measured;
         line(
-            workload.name,
+            row.name,
             &[
-                workload.pairs.len().to_string(),
+                row.held.to_string(),
                 measured.nodes.to_string(),
                 format!("{:.1}", measured.values),
                 format!("{:.1}", measured.test),
@@ -62,7 +62,7 @@ fn held(rows: &[Row]) {
 }
 
 /// The Rust parses the name's text as our call does; and once without that.
-fn asked(call: &str, rows: &[Row], of: fn(&Measured) -> &Asked) {
+fn asked(call: &str, rows: Rows, of: fn(&Measured) -> &Asked) {
     head(
         call,
         &[
@@ -75,10 +75,11 @@ fn asked(call: &str, rows: &[Row], of: fn(&Measured) -> &Asked) {
             "ratio",
         ],
     );
-    for (workload, measured) in rows {
+    for row in rows {
+        let measured = &row.measured;
         let asked = of(measured);
         line(
-            workload.name,
+            row.name,
             &[
                 ns(asked.known),
                 ns(asked.rust),
@@ -92,7 +93,7 @@ fn asked(call: &str, rows: &[Row], of: fn(&Measured) -> &Asked) {
     }
 }
 
-fn changed(rows: &[Row]) {
+fn changed(rows: Rows) {
     head(
         "insert + remove",
         &[
@@ -108,12 +109,13 @@ fn changed(rows: &[Row]) {
             "ratio",
         ],
     );
-    for (workload, measured) in rows {
+    for row in rows {
+        let measured = &row.measured;
         let c = &measured.changed;
         let rust = c.rust_insert + c.rust_remove;
         let tested = c.insert_tested + c.remove_tested;
         line(
-            workload.name,
+            row.name,
             &[
                 ns(c.insert),
                 ns(c.rust_insert),
@@ -130,27 +132,24 @@ fn changed(rows: &[Row]) {
     }
 }
 
-/// The workloads by name, and whether each meets a budget.
-fn met(rows: &[Row], is_met: impl Fn(&Measured) -> bool) -> Vec<(&'static str, bool)> {
-    let one = |(workload, measured): &Row| (workload.name, is_met(measured));
-    rows.iter().map(one).collect()
-}
-
-fn budgets(rows: &[Row]) {
+fn budgets(rows: Rows) {
     println!();
     budget(
         &format!("listing, known store, at most {LISTING} of the Rust"),
-        &met(rows, |m| m.listing.known <= LISTING * m.listing.rust),
+        rows,
+        |m| m.listing.known <= LISTING * m.listing.rust,
     );
     budget(
         &format!("insert + remove, known store, at most {CHANGE} of the Rust"),
-        &met(rows, |m| {
+        rows,
+        |m| {
             let c = &m.changed;
             c.insert + c.remove <= CHANGE * (c.rust_insert + c.rust_remove)
-        }),
+        },
     );
     budget(
         &format!("the test of a region, at most {TEST} ns for each node"),
-        &met(rows, |m| m.test <= TEST),
+        rows,
+        |m| m.test <= TEST,
     );
 }

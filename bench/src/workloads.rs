@@ -28,6 +28,14 @@ pub fn all(names: usize) -> Vec<Workload> {
     ]
 }
 
+impl Random {
+    pub fn shuffle<T>(&mut self, all: &mut [T]) {
+        for last in (1..all.len()).rev() {
+            all.swap(last, self.below(last + 1));
+        }
+    }
+}
+
 /// Inserted and asked in an order that has nothing to do with that of the texts.
 fn shuffled(
     name: &'static str,
@@ -48,15 +56,22 @@ fn numbered(filters: impl IntoIterator<Item = String>) -> Vec<(String, u32)> {
         .collect()
 }
 
-const KINDS: [&str; 5] = ["cue", "mute", "talk", "level", "take"];
+/// The floors of a studio building, the rooms of a floor, the booths of a room, and the kinds.
+pub const STUDIO: [usize; 4] = [4, 6, 8, 5];
 
-fn in_studio(random: &mut Random) -> [String; 4] {
+/// The levels of a name in it.
+pub fn in_studio([floor, room, booth, kind]: [usize; 4]) -> [String; 4] {
+    let kinds = ["cue", "mute", "talk", "level", "take"];
     [
-        format!("floor{}", random.below(4)),
-        format!("room{}", random.below(6)),
-        format!("booth{}", random.below(8)),
-        KINDS[random.below(KINDS.len())].to_string(),
+        format!("floor{floor}"),
+        format!("room{room}"),
+        format!("booth{booth}"),
+        kinds[kind].to_string(),
     ]
+}
+
+pub fn somewhere_in_studio(random: &mut Random) -> [String; 4] {
+    in_studio(STUDIO.map(|count| random.below(count)))
 }
 
 /// A studio building. Of ten filters seven are exact, two have a '+' for the room or the booth, and
@@ -65,7 +80,7 @@ fn studio(names: usize) -> Workload {
     let mut random = Random(1);
     let mut pairs = BTreeSet::new();
     while pairs.len() < FILTERS {
-        let mut levels = in_studio(&mut random).to_vec();
+        let mut levels = somewhere_in_studio(&mut random).to_vec();
         match random.below(10) {
             0 => {
                 levels.truncate(1 + random.below(2));
@@ -77,7 +92,7 @@ fn studio(names: usize) -> Workload {
         pairs.insert((levels.join("/"), random.below(300) as u32));
     }
     let names = (0..names)
-        .map(|_| in_studio(&mut random).join("/"))
+        .map(|_| somewhere_in_studio(&mut random).join("/"))
         .collect();
     shuffled(
         "studio building",
@@ -96,25 +111,46 @@ fn siblings(name: &'static str, word: &str, count: usize, names: usize) -> Workl
     shuffled(name, random, pairs, names)
 }
 
+/// What each of 400 booths has.
+pub const OF_BOOTH: [&str; 3] = ["mute", "cue", "talk"];
+
+pub fn of_booth(booth: usize) -> [String; 3] {
+    OF_BOOTH.map(|kind| format!("booth{booth}/{kind}"))
+}
+
 /// 400 booths, each with mute, cue and talk.
 fn booths(names: usize) -> Workload {
     let mut random = Random(3);
-    let kinds = ["mute", "cue", "talk"];
-    let of_booth = |i: usize| kinds.map(|kind| format!("booth{i}/{kind}"));
     let pairs = numbered((0..400).flat_map(of_booth));
     let asked = |random: &mut Random| of_booth(random.below(440))[random.below(3)].clone();
     let names = (0..names).map(|_| asked(&mut random)).collect();
     shuffled("400 booths, 3 kinds", random, pairs, names)
 }
 
+/// One line of levels, 19 to 59 of them.
+fn line(random: &mut Random) -> Vec<String> {
+    let depth = 19 + random.below(41);
+    (0..depth).map(|i| format!("level{i}")).collect()
+}
+
+fn end(random: &mut Random) -> String {
+    format!("end{}", random.below(12))
+}
+
+/// The line, left at some depth with a level of its own.
+pub fn deep_levels(random: &mut Random) -> Vec<String> {
+    let mut levels = line(random);
+    levels.push(end(random));
+    levels
+}
+
 /// 20 to 60 levels: one line of levels, which in a third of the filters has a '+' early and in a
 /// third a '+' late, and filters that leave it at some depth with a level of their own, or with '#'.
 fn deep(names: usize) -> Workload {
     let mut random = Random(4);
-    let line = |depth: usize| -> Vec<String> { (0..depth).map(|i| format!("level{i}")).collect() };
     let mut filters = BTreeSet::new();
     while filters.len() < FILTERS {
-        let mut levels = line(19 + random.below(41));
+        let mut levels = line(&mut random);
         match random.below(3) {
             0 => levels[4] = "+".into(),
             1 => levels[15] = "+".into(),
@@ -122,16 +158,13 @@ fn deep(names: usize) -> Workload {
         }
         levels.push(match random.once_in(20) {
             true => "#".into(),
-            false => format!("end{}", random.below(12)),
+            false => end(&mut random),
         });
         filters.insert(levels.join("/"));
     }
-    let asked = |random: &mut Random| {
-        let mut levels = line(19 + random.below(41));
-        levels.push(format!("end{}", random.below(12)));
-        levels.join("/")
-    };
-    let names = (0..names).map(|_| asked(&mut random)).collect();
+    let names = (0..names)
+        .map(|_| deep_levels(&mut random).join("/"))
+        .collect();
     shuffled("20 to 60 levels", random, numbered(filters), names)
 }
 
@@ -143,12 +176,12 @@ fn wildcards(names: usize) -> Workload {
     while filters.len() < FILTERS {
         let level = |random: &mut Random| match random.below(2) {
             0 => "+",
-            _ => words[random.below(4)],
+            _ => random.of(&words),
         };
         let levels = [0; 5].map(|_| level(&mut random));
         filters.insert(levels.join("/"));
     }
-    let asked = |random: &mut Random| [0; 5].map(|_| words[random.below(4)]).join("/");
+    let asked = |random: &mut Random| [0; 5].map(|_| random.of(&words)).join("/");
     let names = (0..names).map(|_| asked(&mut random)).collect();
     shuffled("wildcard-heavy", random, numbered(filters), names)
 }

@@ -2,34 +2,24 @@
 
 use rmqtt::types::TopicName;
 
-use super::library::{Calls, Library, KNOWN, TESTED};
 use super::rust::{texts, Rust};
 use super::workloads::Workload;
 use super::{moment, offsets, Record, LIMIT, LOOKED_UP, SWEPT};
-
-/// A call that tests the region is compared once in so many times: it takes long, and behind the
-/// test it is the other call.
-const TESTED_ONCE_IN: usize = 8;
-
-fn either(place: usize) -> Calls {
-    match place % TESTED_ONCE_IN {
-        0 => TESTED,
-        _ => KNOWN,
-    }
-}
+use crate::agree::either;
+use crate::store::{Form, Store};
 
 /// The two sides, and the names of a workload as each takes them.
 struct Both<'a> {
-    library: Library,
+    library: Store,
     rust: Rust,
     names: &'a [String],
     topics: Vec<TopicName>,
 }
 
 /// Fills both sides and compares every answer of a workload; the two, filled.
-pub fn filled(workload: &Workload) -> (Library, Rust) {
+pub fn filled(workload: &Workload) -> (Store, Rust) {
     let mut both = Both {
-        library: Library::new(),
+        library: Store::of_names(),
         rust: Rust::default(),
         names: &workload.names,
         topics: texts(&workload.names),
@@ -82,12 +72,12 @@ impl Both<'_> {
 
     /// Both forms of the sweep, from the same store.
     fn swept(&mut self, what: &str, clock: u64) {
-        let mut other = Library::new();
+        let mut other = Store::of_names();
         other.become_as(&self.library);
         let removed = self.rust.sweep(clock);
-        assert_eq!(other.sweep(KNOWN, clock), removed, "sweep of {what}");
+        assert_eq!(other.sweep(Form::Known, clock), removed, "sweep of {what}");
         assert_eq!(
-            self.library.sweep(TESTED, clock),
+            self.library.sweep(Form::Tested, clock),
             removed,
             "sweep of {what}"
         );
@@ -99,17 +89,19 @@ impl Both<'_> {
     /// The counts, and all records with their times at the clock 0.
     fn same_held(&mut self) {
         assert_eq!(self.library.count(), self.rust.count(), "count");
-        let found = self.library.records(KNOWN, "#", 0);
+        let found = self.library.lookup_records(Form::Known, "#", 0);
         same("#", found, self.rust.records(&TopicName::from("#"), 0));
     }
 
     fn looked_up(&mut self, filters: &[String]) {
         let topics = texts(filters);
         for (place, filter) in filters.iter().enumerate() {
-            let found = self.library.records(either(place), filter, LOOKED_UP);
+            let found = self
+                .library
+                .lookup_records(either(place), filter, LOOKED_UP);
             let expected = self.rust.records(&topics[place], LOOKED_UP);
             same(filter, found, expected);
-            let read = self.library.lookup(KNOWN, filter, LOOKED_UP);
+            let read = self.library.lookup(Form::Known, filter, LOOKED_UP);
             let expected = self.rust.lookup(&topics[place], LOOKED_UP);
             assert_eq!(read, expected, "lookup {filter}");
         }
@@ -118,11 +110,11 @@ impl Both<'_> {
     /// The Rust's pages have no order. So their sizes are compared, and what is on a page with the
     /// lookup of '#'.
     fn paged(&mut self) {
-        let all = self.library.records(KNOWN, "#", LOOKED_UP);
+        let all = self.library.lookup_records(Form::Known, "#", LOOKED_UP);
         for offset in offsets(all.len()) {
             let expected = self.rust.page_size(LOOKED_UP, offset, LIMIT);
-            for calls in [KNOWN, TESTED] {
-                let (page, more) = self.library.page_records(calls, LOOKED_UP, offset, LIMIT);
+            for form in [Form::Known, Form::Tested] {
+                let (page, more) = self.library.page_records(form, LOOKED_UP, offset, LIMIT);
                 assert_eq!((page.len(), more), expected, "page at {offset}");
                 assert_eq!(
                     page,

@@ -5,16 +5,14 @@ use std::time::{Duration, Instant};
 
 use rmqtt::types::TopicName;
 
-use super::library::{Calls, Library, KNOWN, TESTED};
 use super::rust::{texts, Rust};
 use super::workloads::Workload;
 use super::{moment, offsets, LIMIT, LOOKED_UP, SWEPT};
-use crate::measures::Effort;
+use crate::measures::{Effort, TESTED_CALLS};
 use crate::read::Read;
+use crate::store::Form::{self, Known, Tested};
+use crate::store::Store;
 use crate::timing::{medians, Timed};
-
-/// A test of a region takes so much longer than a question that a few of the filters will do.
-const TESTED_FILTERS: usize = 40;
 
 /// So many of the records of a full store are replaced, so many pages are asked for, and so many
 /// sweeps are made, in a round.
@@ -68,11 +66,11 @@ struct Sides<'a> {
     rounds: usize,
     names: &'a [String],
     topics: Vec<TopicName>,
-    full: &'a Library,
+    full: &'a Store,
     rust: &'a Rust,
 }
 
-pub fn measured(effort: &Effort, workload: &Workload, full: &Library, rust: &Rust) -> Measured {
+pub fn measured(effort: &Effort, workload: &Workload, full: &Store, rust: &Rust) -> Measured {
     let sides = Sides {
         rounds: effort.rounds,
         names: &workload.names,
@@ -105,8 +103,8 @@ fn times(rounds: usize, mut three: [Timed; 3]) -> Times {
 
 impl Sides<'_> {
     /// A store that holds what the full one holds.
-    fn copy(&self) -> Library {
-        let mut library = Library::new();
+    fn copy(&self) -> Store {
+        let mut library = Store::of_names();
         library.become_as(self.full);
         library
     }
@@ -126,10 +124,10 @@ impl Sides<'_> {
         for topic in &topics {
             read.add(self.rust.lookup(topic, LOOKED_UP));
         }
-        let few = &filters[..filters.len().min(TESTED_FILTERS)];
+        let few = &filters[..filters.len().min(TESTED_CALLS)];
         let three = [
-            lookups(KNOWN, filters, self.copy()),
-            lookups(TESTED, few, self.copy()),
+            lookups(Known, filters, self.copy()),
+            lookups(Tested, few, self.copy()),
             Timed::whole(topics.len(), || {
                 for topic in &topics {
                     black_box(self.rust.lookup(topic, LOOKED_UP));
@@ -142,8 +140,8 @@ impl Sides<'_> {
 
     fn page(&self, offset: u64) -> Times {
         let three = [
-            pages(KNOWN, offset, self.copy()),
-            pages(TESTED, offset, self.copy()),
+            pages(Known, offset, self.copy()),
+            pages(Tested, offset, self.copy()),
             Timed::whole(PAGES, || {
                 for _ in 0..PAGES {
                     black_box(self.rust.page(LOOKED_UP, offset, LIMIT));
@@ -156,8 +154,8 @@ impl Sides<'_> {
     /// The first names, set in an empty store.
     fn set(&self, count: usize) -> Times {
         let three = [
-            sets(KNOWN, &self.names[..count]),
-            sets(TESTED, &self.names[..count]),
+            sets(Known, &self.names[..count]),
+            sets(Tested, &self.names[..count]),
             Timed::part(count, || {
                 let began = Instant::now();
                 let rust = self.rust_filled(count);
@@ -172,8 +170,8 @@ impl Sides<'_> {
     /// They are erased in the reverse order, until the store is empty.
     fn erase(&self, count: usize) -> Times {
         let three = [
-            erases(KNOWN, &self.names[..count]),
-            erases(TESTED, &self.names[..count]),
+            erases(Known, &self.names[..count]),
+            erases(Tested, &self.names[..count]),
             Timed::part(count, || {
                 let rust = self.rust_filled(count);
                 let began = Instant::now();
@@ -191,8 +189,8 @@ impl Sides<'_> {
         let few = &self.names[..REPLACED];
         let rust = self.rust_filled(self.names.len());
         let three = [
-            replaces(KNOWN, few, self.copy()),
-            replaces(TESTED, few, self.copy()),
+            replaces(Known, few, self.copy()),
+            replaces(Tested, few, self.copy()),
             Timed::whole(few.len(), || {
                 for (place, topic) in self.topics[..few.len()].iter().enumerate() {
                     rust.set(topic, 1, moment(place));
@@ -205,8 +203,8 @@ impl Sides<'_> {
     /// Each from a full store. The call that tells the count is the test of the region and one read.
     fn sweep(&self, clock: u64) -> Swept {
         let mut four = [
-            each_restored(self.full, move |library| library.sweep(KNOWN, clock)),
-            each_restored(self.full, move |library| library.sweep(TESTED, clock)),
+            each_restored(self.full, move |library| library.sweep(Known, clock)),
+            each_restored(self.full, move |library| library.sweep(Tested, clock)),
             Timed::part(SWEEPS, || {
                 let mut took = Duration::ZERO;
                 for _ in 0..SWEEPS {
@@ -231,62 +229,62 @@ impl Sides<'_> {
     }
 }
 
-fn lookups(calls: Calls, filters: &[String], mut library: Library) -> Timed<'_> {
+fn lookups(form: Form, filters: &[String], mut library: Store) -> Timed<'_> {
     Timed::whole(filters.len(), move || {
         for filter in filters {
-            black_box(library.lookup(calls, filter, LOOKED_UP));
+            black_box(library.lookup(form, filter, LOOKED_UP));
         }
     })
 }
 
-fn pages<'a>(calls: Calls, offset: u64, mut library: Library) -> Timed<'a> {
+fn pages<'a>(form: Form, offset: u64, mut library: Store) -> Timed<'a> {
     Timed::whole(PAGES, move || {
         for _ in 0..PAGES {
-            black_box(library.page(calls, LOOKED_UP, offset, LIMIT));
+            black_box(library.page(form, LOOKED_UP, offset, LIMIT));
         }
     })
 }
 
-fn fill(calls: Calls, names: &[String], library: &mut Library) {
+fn fill(form: Form, names: &[String], library: &mut Store) {
     for (place, name) in names.iter().enumerate() {
-        black_box(library.set(calls, name, place as u32, moment(place)));
+        black_box(library.set(form, name, place as u32, moment(place)));
     }
 }
 
-fn sets(calls: Calls, names: &[String]) -> Timed<'_> {
-    let mut library = Library::new();
+fn sets(form: Form, names: &[String]) -> Timed<'_> {
+    let mut library = Store::of_names();
     Timed::part(names.len(), move || {
         library.empty();
         let began = Instant::now();
-        fill(calls, names, &mut library);
+        fill(form, names, &mut library);
         began.elapsed()
     })
 }
 
-fn erases(calls: Calls, names: &[String]) -> Timed<'_> {
-    let (mut full, mut library) = (Library::new(), Library::new());
-    fill(KNOWN, names, &mut full);
+fn erases(form: Form, names: &[String]) -> Timed<'_> {
+    let (mut full, mut library) = (Store::of_names(), Store::of_names());
+    fill(Known, names, &mut full);
     Timed::part(names.len(), move || {
         library.become_as(&full);
         let began = Instant::now();
         for name in names.iter().rev() {
-            black_box(library.erase(calls, name));
+            black_box(library.erase(form, name));
         }
         began.elapsed()
     })
 }
 
-fn replaces(calls: Calls, names: &[String], mut library: Library) -> Timed<'_> {
+fn replaces(form: Form, names: &[String], mut library: Store) -> Timed<'_> {
     Timed::whole(names.len(), move || {
         for (place, name) in names.iter().enumerate() {
-            black_box(library.set(calls, name, 1, moment(place)));
+            black_box(library.set(form, name, 1, moment(place)));
         }
     })
 }
 
 /// A call that is made each time on the full store.
-fn each_restored<'a>(full: &'a Library, call: impl Fn(&mut Library) -> u64 + 'a) -> Timed<'a> {
-    let mut library = Library::new();
+fn each_restored<'a>(full: &'a Store, call: impl Fn(&mut Store) -> u64 + 'a) -> Timed<'a> {
+    let mut library = Store::of_names();
     Timed::part(SWEEPS, move || {
         let mut took = Duration::ZERO;
         for _ in 0..SWEEPS {

@@ -4,6 +4,7 @@
 use std::collections::BTreeSet;
 
 use crate::random::Random;
+use crate::workloads::{deep_levels, in_studio, of_booth, somewhere_in_studio, OF_BOOTH, STUDIO};
 
 /// What a lookup's filter has in it.
 pub const FORMS: [&str; 3] = ["exact", "with '+'", "with '#'"];
@@ -55,28 +56,18 @@ fn made(
     }
 }
 
-const KINDS: [&str; 5] = ["cue", "mute", "talk", "level", "take"];
-
-fn in_studio(floor: usize, room: usize, booth: usize, kind: usize) -> [String; 4] {
-    [
-        format!("floor{floor}"),
-        format!("room{room}"),
-        format!("booth{booth}"),
-        KINDS[kind].to_string(),
-    ]
-}
-
 /// A studio building: every kind of every booth. A '+' stands for the room or the booth, a '#'
 /// behind the floor or the room.
 fn studio(filters: usize) -> Workload {
-    let mut names = Vec::new();
-    for place in 0..4 * 6 * 8 * 5 {
-        let (booths, kind) = (place / 5, place % 5);
-        names.push(in_studio(booths / 48, booths / 8 % 6, booths % 8, kind).join("/"));
-    }
+    let [_, rooms, booths, kinds] = STUDIO;
+    let name = |place: usize| {
+        let (booth, kind) = (place / kinds, place % kinds);
+        let (room, booth) = (booth / booths, booth % booths);
+        in_studio([room / rooms, room % rooms, booth, kind]).join("/")
+    };
+    let names = (0..STUDIO.iter().product()).map(name).collect();
     let filter = |random: &mut Random, form: usize| {
-        let [floor, room, booth, kind] = [4, 6, 8, 5].map(|count| random.below(count));
-        let mut levels = in_studio(floor, room, booth, kind).to_vec();
+        let mut levels = somewhere_in_studio(random).to_vec();
         match form {
             0 => {}
             1 => levels[1 + random.below(2)] = "+".into(),
@@ -104,10 +95,8 @@ fn siblings(name: &'static str, count: usize, filters: usize) -> Workload {
 /// 400 booths, each with mute, cue and talk. Of ten filters with a wildcard nine name a booth, and
 /// one takes a kind of all booths, or all names.
 fn booths(filters: usize) -> Workload {
-    let kinds = ["mute", "cue", "talk"];
-    let names = (0..400).flat_map(|i| kinds.map(|kind| format!("booth{i}/{kind}")));
     let filter = |random: &mut Random, form: usize| {
-        let (booth, kind) = (random.below(440), kinds[random.below(3)]);
+        let (booth, kind) = (random.below(440), random.of(&OF_BOOTH));
         match (form, random.once_in(10)) {
             (0, _) => format!("booth{booth}/{kind}"),
             (1, false) => format!("booth{booth}/+"),
@@ -119,7 +108,7 @@ fn booths(filters: usize) -> Workload {
     made(
         "400 booths, 3 kinds",
         Random(13),
-        names.collect(),
+        (0..400).flat_map(of_booth).collect(),
         filters,
         &filter,
     )
@@ -129,18 +118,12 @@ fn booths(filters: usize) -> Workload {
 /// '+' stands early or late, a '#' behind some of the line.
 fn deep(filters: usize) -> Workload {
     let mut random = Random(14);
-    let line = |depth: usize| -> Vec<String> { (0..depth).map(|i| format!("level{i}")).collect() };
-    let name = |random: &mut Random| {
-        let mut levels = line(19 + random.below(41));
-        levels.push(format!("end{}", random.below(12)));
-        levels
-    };
     let mut names = BTreeSet::new();
     while names.len() < 400 {
-        names.insert(name(&mut random).join("/"));
+        names.insert(deep_levels(&mut random).join("/"));
     }
     let filter = |random: &mut Random, form: usize| {
-        let mut levels = name(random);
+        let mut levels = deep_levels(random);
         match form {
             0 => {}
             1 => levels[[4, 15][random.below(2)]] = "+".into(),
