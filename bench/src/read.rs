@@ -1,5 +1,6 @@
-//! What a caller has of a listing: each filter as text, and its values. Both sides are read to the
-//! end, or a side that gives less would be the faster one.
+//! What a caller has of a listing: each filter as text, and its values.
+//!
+//! Both sides are read to the end, or a side that gives less would be the faster one.
 
 /// A record of a listing.
 pub type Record = (Vec<u8>, Vec<u32>);

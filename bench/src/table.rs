@@ -1,5 +1,6 @@
-//! The tables of subscriptions: times in ns for each call, and ratios ours / Rust. No time fails a
-//! run.
+//! The tables of subscriptions: times in ns for each call, and ratios ours / Rust.
+//!
+//! No time fails a run.
 
 use std::{env, fs, thread};
 

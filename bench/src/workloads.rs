@@ -1,4 +1,6 @@
-//! What is held and what is asked, by workload. Each is made from a fixed seed.
+//! What is held and what is asked, by workload.
+//!
+//! Each is made from a fixed seed.
 
 use std::collections::BTreeSet;
 

@@ -1,5 +1,7 @@
 //! The examples that document 01 writes out, with its own answers, and some more for its order of
-//! refusals. The reference is held against them, so that the judge itself is judged by the paper.
+//! refusals.
+//!
+//! The reference is held against them, so that the judge itself is judged by the paper.
 
 use crate::answers::number::*;
 use crate::answers::{Answer, Refusal, TopicCalls};

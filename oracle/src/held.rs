@@ -1,4 +1,5 @@
 //! What a store of subscriptions holds, by document 01 alone: a set of pairs, listed the plain way.
+//!
 //! Where a twist is named, that one rule is broken on purpose.
 
 use std::cmp::Ordering;

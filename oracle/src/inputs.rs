@@ -1,5 +1,6 @@
-//! What is asked about: texts, and pairs of a filter and a name. Here are the short ones, all of
-//! them over small alphabets.
+//! What is asked about: texts, and pairs of a filter and a name.
+//!
+//! Here are the short ones, all of them over small alphabets.
 
 use crate::answers::TopicCalls;
 use crate::reference::HONEST;

@@ -1,4 +1,5 @@
 //! A second judge of matching, from outside: `mosquitto_topic_matches_sub` of libmosquitto (Debian's package libmosquitto1).
+//!
 //! It is loaded where it is there; it judges pairs of a valid filter and a valid name.
 
 use std::ffi::{c_char, c_int, c_void, CString};

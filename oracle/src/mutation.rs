@@ -1,5 +1,6 @@
-//! Rules broken on purpose, one at a time. The self-test gives each to the reference and sees
-//! whether the comparison notices.
+//! Rules broken on purpose, one at a time.
+//!
+//! The self-test gives each to the reference and sees whether the comparison notices.
 
 use crate::answers::number::*;
 use Mutation::*;

@@ -73,10 +73,7 @@ impl Trial for Names {
                 payload: random.of(&[0, 1, 1, 2, 9, u64::MAX]),
                 stored: Stored {
                     handle: random.below(stage.values as usize) as u32 * 0x0101_0307,
-                    moment: match random.once_in(3) {
-                        true => None,
-                        false => Some(random.of(&TIMES)),
-                    },
+                    moment: (!random.once_in(3)).then(|| random.of(&TIMES)),
                 },
             },
             8..=9 => match self.sides.model.some(random) {

@@ -1,5 +1,7 @@
 //! What a store of retained names holds, by document 01 alone: a record for each name, looked up and
-//! paged the plain way. Where a twist is named, that one rule is broken on purpose.
+//! paged the plain way.
+//!
+//! Where a twist is named, that one rule is broken on purpose.
 
 use std::collections::BTreeMap;
 

@@ -1,5 +1,7 @@
 //! The room that a store has and uses, by document 01 alone: nodes, pairs and cells counted from what
-//! is held, and the refusals 12 to 15. Where a twist is named, that one rule is broken on purpose.
+//! is held, and the refusals 12 to 15.
+//!
+//! Where a twist is named, that one rule is broken on purpose.
 
 use std::collections::BTreeMap;
 

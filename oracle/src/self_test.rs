@@ -1,6 +1,7 @@
 //! The test of the harness itself: the reference answers the examples of document 01, an honest
-//! run finds nothing, and every mutation is noticed by each judge that has a say in it. The same
-//! for regions: examples, an honest run, and every condition of a store left out.
+//! run finds nothing, and every mutation is noticed by each judge that has a say in it.
+//!
+//! The same for regions: examples, an honest run, and every condition of a store left out.
 
 use crate::answers::TopicCalls;
 use crate::compare::{Comparison, Difference, Judge};

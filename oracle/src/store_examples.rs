@@ -1,5 +1,6 @@
-//! Two small stores with their bytes written out by hand from docs/STORE.md. What the harness
-//! writes down itself is held against them.
+//! Two small stores with their bytes written out by hand from docs/STORE.md.
+//!
+//! What the harness writes down itself is held against them.
 
 use crate::stores::{self, Counts, Held, Kind, Stored};
 

@@ -1,6 +1,8 @@
 //! Whether a region is a store, by the conditions of docs/STORE.md one after another: the region is
 //! decoded to a tree, the tree is written down again and compared, and what it holds is listed and
-//! looked at. Where `left_out` names a condition, that one is left out on purpose.
+//! looked at.
+//!
+//! Where `left_out` names a condition, that one is left out on purpose.
 
 use std::collections::BTreeSet;
 

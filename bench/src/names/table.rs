@@ -1,4 +1,6 @@
-//! The tables of names: times in ns for each call, and ratios ours / Rust. No time fails a run.
+//! The tables of names: times in ns for each call, and ratios ours / Rust.
+//!
+//! No time fails a run.
 
 use super::measures::{Measured, Times};
 use super::workloads::FORMS;

@@ -1,5 +1,6 @@
-//! The names that are held and the filters that are looked up, by workload. Each is made from a
-//! fixed seed.
+//! The names that are held and the filters that are looked up, by workload.
+//!
+//! Each is made from a fixed seed.
 
 use std::collections::BTreeSet;
 

@@ -1,4 +1,6 @@
-//! What a gateway does with the two stores, in one small program. It prints what examples/c/broker.c prints.
+//! What a gateway does with the two stores, in one small program.
+//!
+//! It prints what examples/c/broker.c prints.
 
 #[allow(dead_code)]
 mod cjumbradi;

@@ -1,4 +1,6 @@
-//! A clock that is told the time. `TimedValue` says `Instant::now()`, and the name is this type.
+//! A clock that is told the time.
+//!
+//! `TimedValue` says `Instant::now()`, and the name is this type.
 
 use std::cell::Cell;
 use std::ops::Add;

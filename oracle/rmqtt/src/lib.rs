@@ -1,6 +1,7 @@
-//! Files of rmqtt, byte for byte as published, from the folder RMQTT_SRC. What they lean on comes
-//! from the small stand-ins in `../shim`, and from here. Nothing of rmqtt itself stands in this
-//! repository.
+//! Files of rmqtt, byte for byte as published, from the folder RMQTT_SRC.
+//!
+//! What they lean on comes from the small stand-ins in `../shim`, and from here. Nothing of rmqtt
+//! itself stands in this repository.
 #![allow(dead_code, unused_imports, async_fn_in_trait, clippy::all)]
 
 include!(concat!(env!("OUT_DIR"), "/modules.rs"));

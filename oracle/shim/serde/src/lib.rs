@@ -1,5 +1,6 @@
-//! Stands in for serde. Nothing is written down or read back in a comparison, so every type has its
-//! two traits.
+//! Stands in for serde.
+//!
+//! Nothing is written down or read back in a comparison, so every type has its two traits.
 
 pub use serde_derive::{Deserialize, Serialize};
 

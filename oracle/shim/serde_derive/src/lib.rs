@@ -1,5 +1,6 @@
-//! Stands in for the derives of serde. Nothing is written down or read back in a comparison, so its two derives
-//! add nothing to a type.
+//! Stands in for the derives of serde.
+//!
+//! Nothing is written down or read back in a comparison, so its two derives add nothing to a type.
 
 use proc_macro::TokenStream;
 

@@ -1,5 +1,7 @@
-//! Stands in for thiserror. Its derive is used on types without parameters that have their own
-//! `Display`, so an empty `std::error::Error` is all that is missing.
+//! Stands in for thiserror.
+//!
+//! Its derive is used on types without parameters that have their own `Display`, so an empty
+//! `std::error::Error` is all that is missing.
 
 use proc_macro::{TokenStream, TokenTree};
 

@@ -1,4 +1,6 @@
-//! Stands in for tokio: the one lock that is taken. One thread takes it, so it never waits.
+//! Stands in for tokio: the one lock that is taken.
+//!
+//! One thread takes it, so it never waits.
 
 pub mod sync {
     use std::sync::{RwLockReadGuard, RwLockWriteGuard};
