@@ -1,10 +1,11 @@
 //! Buffers for records: longer than the records or shorter, with what a call should leave in them.
 
+use std::fmt::Debug;
+
 use crate::answers::number::SHORT_ROOM;
 use crate::answers::{Answer, Refusal};
 use crate::differ::{debug, differ};
 use crate::regions::Listed;
-use std::fmt::Debug;
 
 /// A record as document 01 writes it: a mark, the length of its text, the text, and the rest.
 pub trait Record {

@@ -31,7 +31,7 @@ pub const GATE: Effort = Effort {
 };
 
 /// A small part of it, for trying judges that leave something out.
-pub const QUICK: Effort = Effort {
+const QUICK: Effort = Effort {
     whole: 200,
     byte_by_byte: 10,
     at_random: 10_000,
@@ -89,20 +89,20 @@ fn run_stage((name, cases): Stage, seed: u64) -> Totals {
     totals
 }
 
+/// The cases of a small run.
+fn quick(judge: &StoreJudge, seed: u64) -> impl Iterator<Item = Case> + '_ {
+    let stages = stages(judge, &QUICK, seed).into_iter();
+    stages.flat_map(|(_, cases)| cases)
+}
+
 /// The first difference from a judge that a small run sees.
 pub fn first_difference(judge: &StoreJudge, seed: u64) -> Option<String> {
-    let mut cases = stages(judge, &QUICK, seed)
-        .into_iter()
-        .flat_map(|(_, cases)| cases);
-    cases.find_map(Case::err)
+    quick(judge, seed).find_map(Case::err)
 }
 
 /// Whether some damage of a small run leaves a store, and not the one that it was.
 pub fn leaves_other_stores(seed: u64) -> bool {
-    let mut cases = stages(&HONEST, &QUICK, seed)
-        .into_iter()
-        .flat_map(|(_, cases)| cases);
-    cases.any(|case| case == Ok(Found::OtherStore))
+    quick(&HONEST, seed).any(|case| case == Ok(Found::OtherStore))
 }
 
 fn stages<'j>(judge: &'j StoreJudge, effort: &Effort, seed: u64) -> Vec<Stage<'j>> {

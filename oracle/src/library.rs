@@ -12,20 +12,17 @@ pub const UNWRITTEN: u64 = 0x5555_5555_5555_5555;
 /// The library. An empty slice of Rust has a pointer that is not null, as the interface wants.
 pub struct Library;
 
-/// A returned number with what was handed back beside it.
-fn answer<T>(number: u64, value: T, place: u64) -> Answer<T> {
-    match number {
-        0 => Ok(value),
-        _ => Err(Refusal { number, place }),
-    }
-}
-
 /// Makes a call that hands back one number.
 pub fn asked(called: Called, call: impl FnOnce(&mut u64) -> u64) -> Answer {
     count(called);
     let mut value = UNWRITTEN;
-    let number = call(&mut value);
-    answer(number, value, value)
+    match call(&mut value) {
+        0 => Ok(value),
+        number => Err(Refusal {
+            number,
+            place: value,
+        }),
+    }
 }
 
 fn ask(called: Called, call: TextCall, text: &[u8]) -> Answer {
@@ -44,16 +41,18 @@ impl TopicCalls for Library {
     fn level(&self, text: &[u8], k: u64) -> LevelAnswers {
         let text = Lent::new(text);
         let (at, len) = (text.as_ptr(), text.len());
-        let (mut kind, mut start, mut length) = (UNWRITTEN, UNWRITTEN, UNWRITTEN);
-        count(Called::LevelKind);
-        count(Called::LevelPart);
-        // SAFETY: as in `ask`, with more numbers, each its own variable.
-        let of_kind = unsafe { cjumbradi_level_kind(at, len, k, &mut kind) };
-        let of_part = unsafe { cjumbradi_level_part(at, len, k, &mut start, &mut length) };
+        let mut length = UNWRITTEN;
+        // SAFETY: as in `ask`, with one number more.
+        let kind = asked(Called::LevelKind, |kind| unsafe {
+            cjumbradi_level_kind(at, len, k, kind)
+        });
+        let start = asked(Called::LevelPart, |start| unsafe {
+            cjumbradi_level_part(at, len, k, start, &mut length)
+        });
         LevelAnswers {
             k,
-            kind: answer(of_kind, kind, kind),
-            part: answer(of_part, Part { start, length }, start),
+            kind,
+            part: start.map(|start| Part { start, length }),
         }
     }
 

@@ -38,10 +38,10 @@ pub fn run(seed: u64) -> Totals {
             mutation: Some(mutation),
         };
         let noticed = first_difference(&Library, &[&mutated], seed);
-        totals.count(unnoticed(mutation, "reference", noticed));
+        totals.count(unnoticed_mutation(mutation, "reference", noticed));
         if let Some(rust) = rust_judge().filter(|_| rust_has_a_say) {
             let noticed = first_difference(&mutated, &[rust], seed);
-            totals.count(unnoticed(mutation, "Rust", noticed));
+            totals.count(unnoticed_mutation(mutation, "Rust", noticed));
         }
     }
     totals
@@ -65,13 +65,11 @@ fn of_regions(seed: u64) -> Totals {
             left_out: Some(*condition),
         };
         let noticed = damage::first_difference(&judge, seed);
-        totals.count(match noticed {
-            None => Some(format!("a judge without {condition:?} is not noticed")),
-            Some(wrong) => {
-                println!("without {condition:?}: {wrong:.120}");
-                None
-            }
-        });
+        let noticed = noticed.map(|wrong| format!("without {condition:?}: {wrong:.120}"));
+        totals.count(unnoticed(
+            &format!("a judge without {condition:?}"),
+            noticed,
+        ));
     }
     totals
 }
@@ -85,28 +83,32 @@ fn of_histories<T: Trial>(of_its_own: &[Twist], seed: u64) -> Totals {
         noise.map(|(calls, wrong)| format!("an honest history differs, {calls:?}: {wrong}")),
     );
     for twist in [OF_EITHER, of_its_own].concat() {
-        totals.count(match history::first_difference::<T>(Some(twist), seed) {
-            None => Some(format!("{twist:?} of {} is not noticed", T::KIND)),
-            Some((calls, wrong)) => {
-                println!("{twist:?}: after {} calls, {wrong:.100}", calls.len());
-                None
-            }
-        });
+        let noticed = history::first_difference::<T>(Some(twist), seed);
+        let noticed = noticed
+            .map(|(calls, wrong)| format!("{twist:?}: after {} calls, {wrong:.100}", calls.len()));
+        totals.count(unnoticed(&format!("{twist:?} of {}", T::KIND), noticed));
     }
     totals
 }
 
-/// Prints where the mutation was noticed; a complaint if it was not.
-fn unnoticed(mutation: Mutation, judge: &str, noticed: Noticed) -> Option<String> {
-    let Some((input, difference)) = noticed else {
-        return Some(format!("{mutation:?} is not noticed by the {judge}"));
-    };
-    println!(
-        "{mutation:?}: {} by the {judge}, {}",
-        difference.call,
-        input.quoted()
-    );
-    None
+/// Prints where something wrong was noticed; a complaint if it was not.
+fn unnoticed(what: &str, noticed: Option<String>) -> Option<String> {
+    match noticed {
+        None => Some(format!("{what} is not noticed")),
+        Some(where_it_was) => {
+            println!("{where_it_was}");
+            None
+        }
+    }
+}
+
+/// The same for a mutation before a judge.
+fn unnoticed_mutation(mutation: Mutation, judge: &str, noticed: Noticed) -> Option<String> {
+    let noticed = noticed.map(|(input, difference)| {
+        let (call, input) = (difference.call, input.quoted());
+        format!("{mutation:?}: {call} by the {judge}, {input}")
+    });
+    unnoticed(&format!("by the {judge}, {mutation:?}"), noticed)
 }
 
 type Noticed = Option<(Input, Difference)>;
