@@ -62,20 +62,18 @@ impl Tree {
 pub struct Storage(DefaultRetainStorage);
 
 impl Storage {
-    fn count(&self) -> u64 {
-        now_or_never(self.0.count()) as u64
+    pub fn count(&self) -> Option<u64> {
+        Some(now_or_never(self.0.count()) as u64)
     }
 
-    /// Names and nodes.
-    pub fn sizes(&self) -> Option<[u64; 2]> {
-        let nodes = now_or_never(self.0.messages.read()).nodes_size();
-        Some([self.count(), nodes as u64])
+    pub fn nodes(&self) -> Option<u64> {
+        Some(now_or_never(self.0.messages.read()).nodes_size() as u64)
     }
 
     /// At the time 0, so that the time until a record expires is its moment.
     pub fn set(&mut self, name: &[u8], payload: u64, stored: Stored) -> Option<u64> {
         clock::set(0);
-        let before = self.count();
+        let before = self.count()?;
         let retain = Retain {
             handle: stored.handle,
             publish: Publish {
@@ -86,7 +84,7 @@ impl Storage {
         let name = TopicName::from(text(name));
         let done = self.0.set_with_timeout(&name, retain, expiry);
         now_or_never(done).expect("an accepted name is set");
-        Some(match (payload, self.count() != before) {
+        Some(match (payload, self.count()? != before) {
             (0, false) => set::NOT_HELD,
             (0, true) => set::ERASED,
             (_, false) => set::REPLACED,

@@ -28,7 +28,10 @@ impl Tree {
 pub struct Storage;
 
 impl Storage {
-    pub fn sizes(&self) -> Option<[u64; 2]> {
+    pub fn count(&self) -> Option<u64> {
+        None
+    }
+    pub fn nodes(&self) -> Option<u64> {
         None
     }
     pub fn set(&mut self, _: &[u8], _: u64, _: Stored) -> Option<u64> {

@@ -179,8 +179,8 @@ impl Names {
         let Sides { store, model, rust } = &mut self.sides;
         let found = store.count();
         differ("model", &found, &model.count(self.clock), in_words)?;
-        let sizes = (found, model.room().nodes() as u64);
-        let of_rust = rust.sizes().map(|[count, nodes]| (Ok(count), nodes));
-        differ_from_rust(&sizes, of_rust, debug)
+        let nodes = model.room().nodes() as u64;
+        let of_rust = rust.count().map(Ok).zip(rust.nodes());
+        differ_from_rust(&(found, nodes), of_rust, debug)
     }
 }
