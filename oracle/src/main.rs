@@ -36,6 +36,12 @@ mod random;
 mod random_inputs;
 mod reference;
 mod regions;
+#[cfg(feature = "rust")]
+mod replay;
+#[cfg(feature = "rust")]
+mod replay_histories;
+#[cfg(feature = "rust")]
+mod replay_texts;
 mod report;
 mod retained;
 mod room;
@@ -63,7 +69,8 @@ use name_histories::Names;
 use reference::HONEST;
 use subscription_histories::Subscriptions;
 
-const USAGE: &str = "usage: oracle [--self-test | --differences | --minutes N] [--seed N]";
+const USAGE: &str =
+    "usage: oracle [--self-test | --differences | --replay [--check] | --minutes N] [--seed N]";
 
 /// Cases without a difference, and cases with one.
 #[derive(Default)]
@@ -120,6 +127,10 @@ enum Mode {
     Minutes(u64),
     SelfTest,
     Differences,
+    /// Writes the files of crates/replay, or compares them.
+    Replay {
+        check: bool,
+    },
 }
 
 /// The arguments; none where they are not understood.
@@ -129,6 +140,8 @@ fn arguments(mut words: impl Iterator<Item = String>) -> Option<(Mode, u64)> {
         match word.as_str() {
             "--self-test" => mode = Mode::SelfTest,
             "--differences" => mode = Mode::Differences,
+            "--replay" => mode = Mode::Replay { check: false },
+            "--check" if matches!(mode, Mode::Replay { .. }) => mode = Mode::Replay { check: true },
             "--minutes" => mode = Mode::Minutes(words.next()?.parse().ok()?),
             "--seed" => seed = words.next()?.parse().ok()?,
             _ => return None,
@@ -145,6 +158,21 @@ fn print_differences() {
 #[cfg(not(feature = "rust"))]
 fn print_differences() {
     println!("the Rust is not compiled in: no differences from it");
+}
+
+/// Writes the replay, or compares what is written; then how many lines are as they should be.
+#[cfg(feature = "rust")]
+fn replay(check: bool) -> std::io::Result<Option<Totals>> {
+    if check {
+        return replay::check().map(Some);
+    }
+    replay::write().map(|()| None)
+}
+
+#[cfg(not(feature = "rust"))]
+fn replay(_: bool) -> std::io::Result<Option<Totals>> {
+    println!("the Rust is not compiled in: the replay is neither made nor compared");
+    Ok(None)
 }
 
 /// One whole run: texts, regions, and histories of both stores.
@@ -191,6 +219,10 @@ fn main() -> ExitCode {
             print_differences();
             return ExitCode::SUCCESS;
         }
+        Mode::Replay { check } => match replay(check).expect("the replay's files are there") {
+            Some(totals) => totals,
+            None => return ExitCode::SUCCESS,
+        },
         Mode::SelfTest => self_test::run(seed),
         Mode::Gate => compared(seed),
         Mode::Minutes(minutes) => compared_for(minutes, seed),

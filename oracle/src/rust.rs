@@ -151,7 +151,7 @@ fn refusal(text: &str, error: &TopicError, found: Answer) -> Option<Difference> 
 }
 
 /// The Rust stops at the first bad level, so the one it names is the first with that text.
-fn blamed_level(text: &str, message: &str) -> u64 {
+pub fn blamed_level(text: &str, message: &str) -> u64 {
     let level = message.strip_prefix("invalid level `");
     let level = level.and_then(|rest| rest.strip_suffix("` contains +|#"));
     let level = level.expect("the Rust names the bad level");

@@ -1,10 +1,10 @@
 // The answer to a line.
 use crate::Command;
-use crate::records;
 use crate::words;
 use edit::Changed;
 use edit::Listed;
 use program::say;
+use program::say_listing;
 use program::say_number;
 use refusal::Refusal;
 
@@ -37,7 +37,7 @@ fn unsub(store: &mut [u8], filter: &[u8], value: u32) {
 
 fn find(store: &[u8], name: &[u8], room: &mut [u8]) {
     match trie::matches(store, name, room) {
-        Listed::Given { bytes, records } => records::say_all(room, bytes, records),
+        Listed::Given { bytes, records } => say_listing(room, bytes, records, b"\n"),
         Listed::Refused(refusal) => say_refusal(refusal),
     }
 }

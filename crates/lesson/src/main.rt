@@ -2,7 +2,6 @@
 // store, and answers each line when it is entered.
 mod answers;
 mod lines;
-mod records;
 mod words;
 
 use region::Capacities;
@@ -17,12 +16,6 @@ pub enum Command {
     Unsub { value: u32, at: usize },
     Match { at: usize },
     Bad,
-}
-
-// A decimal u32.
-pub enum Number {
-    Value(u32),
-    Not,
 }
 
 // A store for 512 nodes, pairs and cells needs 64 + 17 * 1536 bytes.

@@ -16,3 +16,15 @@ pub fn find(text: &[u8], byte: u8, from: usize) -> usize
     }
     i
 }
+
+// The first word, up to a space; the whole text where there is none.
+pub fn first_word(text: &[u8]) -> &[u8] {
+    let end = find(text, b' ', 0);
+    &text[..end]
+}
+
+// What stands behind the first word and its space.
+pub fn after_word(text: &[u8]) -> &[u8] {
+    let end = find(text, b' ', 0);
+    level::text_from(text, end + 1)
+}

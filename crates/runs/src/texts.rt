@@ -2,7 +2,9 @@
 use crate::saying::say_matched;
 use crate::saying::say_parsed;
 use libc::STDIN_FILENO;
+use program::after_word;
 use program::find;
+use program::first_word;
 use program::say;
 use program::say_checked;
 
@@ -21,17 +23,15 @@ fn tests(label: &[u8], text: &[u8]) {
 
 // A line `match FILTER NAME`, from the filter on.
 fn run_match(words: &[u8]) {
-    let gap = find(words, b' ', 0);
-    say_matched(topic::matches(&words[..gap], level::text_from(words, gap + 1)));
+    say_matched(topic::matches(first_word(words), after_word(words)));
 }
 
 // A line: the name of a call, a space, and its text.
 fn run_line(line: &[u8]) {
     say(line);
     say(b": ");
-    let gap = find(line, b' ', 0);
-    let call = &line[..gap];
-    let text = level::text_from(line, gap + 1);
+    let call = first_word(line);
+    let text = after_word(line);
     if level::same_bytes(call, b"parse") {
         return say_parsed(topic::parse(text));
     }

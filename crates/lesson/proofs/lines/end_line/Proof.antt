@@ -1,12 +1,9 @@
+-- `lesson::lines::end_line` meets its contract. Assumes nothing.
 use native.Mathlib.Omega.{arith}
 use lib.ListN.{length-take}
 use borrow.Author.Needs.{needs}
 use Rattle.lesson.proofs.lines.end_line.Statement.{statement}
 use Rattle.lesson.proofs.lines.end_line.Tie as tie
-use Rattle.lesson.proofs.lines.end_line.Reads as reads
-use Rattle.lesson.proofs.lines.end_line.Lts as lts
-use Rattle.lesson.proofs.answers.answer.Reads as answer-reads
-use Rattle.lesson.proofs.answers.bad_line.Reads as bad-line-reads
 
 -- src/lines.rt:16:9
 bad-line-requires : tie.Need-bad-line-requires

@@ -1,16 +1,11 @@
+-- `lesson::lines::run` meets its contract. Assumes nothing.
 use native.Mathlib.Omega.{arith}
-use lib.ListN.{length-take}
+use lib.ListN.{length-take, length}
 use Prim.Native.Nat.{_≤_}
 use mathlib.Core.Path.{_≡_}
-use lib.ListN.{length}
 use borrow.Author.Needs.{needs}
 use Rattle.lesson.proofs.lines.run.Statement.{statement}
 use Rattle.lesson.proofs.lines.run.Tie as tie
-use Rattle.lesson.proofs.lines.run.Reads as reads
-use Rattle.lesson.proofs.lines.run.Lts as lts
-use Rattle.lesson.proofs.lines.end_line.Reads as end-line-reads
-use Rattle.lesson.proofs.lines.read_some.Reads as read-some-reads
-use Rattle.lesson.proofs.lines.take_all.Reads as take-all-reads
 
 abbrev Inv-loop : tie.InvT-loop
 Inv-loop store₀ room₀ line₀ chunk₀ come₀ turns₀ store room line chunk come turns = (come ≤ 4097) × (length line ≡ 4096) × (length chunk ≡ 4096) × (length store ≡ length store₀) × (length room ≡ length room₀)

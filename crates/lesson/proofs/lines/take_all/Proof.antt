@@ -1,12 +1,10 @@
+-- `lesson::lines::take_all` meets its contract. Assumes nothing.
 use Prim.Native.Nat.{_-_, _≤_}
 use mathlib.Core.Path.{_≡_}
 use lib.ListN.{length}
 use borrow.Author.Needs.{needs}
 use Rattle.lesson.proofs.lines.take_all.Statement.{statement}
 use Rattle.lesson.proofs.lines.take_all.Tie as tie
-use Rattle.lesson.proofs.lines.take_all.Reads as reads
-use Rattle.lesson.proofs.lines.take_all.Lts as lts
-use Rattle.lesson.proofs.lines.take_byte.Reads as take-byte-reads
 
 abbrev Inv-loop : tie.InvT-loop
 Inv-loop store₀ room₀ line₀ come bytes now-come₀ i₀ store room line now-come i = (i ≤ length bytes) × (now-come ≤ 4097) × (length line ≡ 4096) × (length store ≡ length store₀) × (length room ≡ length room₀)

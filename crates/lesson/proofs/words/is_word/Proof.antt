@@ -1,11 +1,9 @@
+-- `lesson::words::is_word` meets its contract. Assumes nothing.
 use native.Mathlib.Omega.{arith}
 use lib.ListN.{length-take}
 use borrow.Author.Needs.{needs}
 use Rattle.lesson.proofs.words.is_word.Statement.{statement}
 use Rattle.lesson.proofs.words.is_word.Tie as tie
-use Rattle.lesson.proofs.words.is_word.Reads as reads
-use Rattle.lesson.proofs.words.is_word.Lts as lts
-use Rattle.level.proofs.same_bytes.Reads as same-bytes-reads
 
 -- src/words.rt:81:23
 slice-aggregate-same-bytes : tie.Need-slice-aggregate-same-bytes

@@ -1,11 +1,8 @@
+-- `store_runs::saying::say_bytes` meets its contract. Assumes nothing.
 use Prim.Native.Nat.{_-_, _≤_}
 use borrow.Author.Needs.{needs}
 use Rattle.store_runs.proofs.saying.say_bytes.Statement.{statement}
 use Rattle.store_runs.proofs.saying.say_bytes.Tie as tie
-use Rattle.store_runs.proofs.saying.say_bytes.Reads as reads
-use Rattle.store_runs.proofs.saying.say_bytes.Lts as lts
-use Rattle.program.proofs.say.Reads as say-reads
-use Rattle.store_runs.proofs.saying.say_byte.Reads as say-byte-reads
 
 abbrev Inv-loop : tie.InvT-loop
 Inv-loop label out n i₀ t6 t7 i = i ≤ n

@@ -1,10 +1,9 @@
+-- `program::is_number` is safe, and ends. Assumes nothing.
 use Prim.Native.Nat.{_-_, _≤_, _<_, _+_}
 use lib.ListN.{length}
 use borrow.Author.Needs.{needs}
-use Rattle.lesson.proofs.words.is_number.Statement.{statement}
-use Rattle.lesson.proofs.words.is_number.Tie as tie
-use Rattle.lesson.proofs.words.is_number.Reads as reads
-use Rattle.lesson.proofs.words.is_number.Lts as lts
+use Rattle.program.proofs.numbers.is_number.Statement.{statement}
+use Rattle.program.proofs.numbers.is_number.Tie as tie
 
 abbrev Inv-loop : tie.InvT-loop
 Inv-loop digits i₀ i = i ≤ length digits
@@ -12,51 +11,39 @@ Inv-loop digits i₀ i = i ≤ length digits
 abbrev μ-loop : tie.MeasureT-loop
 μ-loop digits i₀ i = length digits - i
 
--- src/words.rt:34:5
 loop-holds : tie.Need-loop-holds Inv-loop μ-loop
 loop-holds c = search needs
 
--- src/words.rt:35:12
 shared-slice-read-if1 : tie.Need-shared-slice-read-if1 Inv-loop μ-loop
 shared-slice-read-if1 c = search needs
 
--- src/words.rt:36:13
 returns : tie.Need-returns Inv-loop μ-loop
 returns c = search needs
 
--- src/words.rt:38:19
 shared-slice-read-if2 : tie.Need-shared-slice-read-if2 Inv-loop μ-loop
 shared-slice-read-if2 c = search needs
 
--- src/words.rt:39:13
 returns-2 : tie.Need-returns-2 Inv-loop μ-loop
 returns-2 c = search needs
 
--- src/words.rt:41:9
 add-i : tie.Need-add-i Inv-loop μ-loop
 add-i c = search needs
 
--- src/words.rt:34:5
 loop-less : tie.Need-loop-less Inv-loop μ-loop
 loop-less c = search needs
 
--- src/words.rt:34:5
 loop-again : tie.Need-loop-again Inv-loop μ-loop
 loop-again c = search needs
 
--- src/words.rt:44:9
 returns-3 : tie.Need-returns-3 Inv-loop μ-loop
 returns-3 c = search needs
 
--- src/words.rt:46:8
 shared-slice-read-if4 : tie.Need-shared-slice-read-if4 Inv-loop μ-loop
 shared-slice-read-if4 c = search needs
 
--- src/words.rt:47:9
 returns-4 : tie.Need-returns-4 Inv-loop μ-loop
 returns-4 c = search needs
 
--- src/words.rt:32:1
 returns-5 : tie.Need-returns-5 Inv-loop μ-loop
 returns-5 c = search needs
 
