@@ -1,1 +1,2 @@
+pub mod SizedLaws
 pub mod AgreeLaws

@@ -3,22 +3,17 @@ use mathlib.Core.Path.{_≡_, refl}
 use Prim.Native.Nat.{ℕ, _+_, _-_, _*_}
 use mathlib.Core.List.{List, [], _∷_, _++_}
 use native.Mathlib.Omega.{arith}
-use lib.ListN.{length, replicate, length-append, length-replicate}
+use lib.ListN.{length, replicate, length-replicate}
 use Rattle.lent.specs.Parts.{part}
 use Rattle.held.specs.Order.{Level}
 use Rattle.held.specs.Bytes.{each}
-use Rattle.held.specs.Forest.{Forest, leaf, fork}
+use Rattle.held.specs.Forest.{Forest, fork}
 use Rattle.region.specs.Layout.{levelUnits, rowUnits, unitsF, headBytes, levelBytes, rowBytes, unitBytes, marksOf}
 use Rattle.region.specs.Forms.{Form}
 use Rattle.region.proofs.Decoded.{length-head, length-level, length-row, length-units}
 use Rattle.forest.specs.Places.{unitAt}
 use Rattle.content.proofs.PartLaws.{part-both, part-front, part-back}
-
--- the marks of a forest are as many as its units
-pub length-marks : {X : Type 0} (d : ℕ) (F : Forest X) → length (marksOf d F) ≡ unitsF F
-unfolding marksOf unitsF
-length-marks d leaf = refl
-length-marks d (fork l v k n) = rw (length-append, length-append, length-replicate, length-marks (d + 1) k, length-marks d n) (omega arith)
+use Rattle.forest.proofs.StandsLaws.{length-marks}
 
 module _ {X : Type 0} (u : Form X) (base : ℕ) (s : List ℕ) where
   -- from unit i on, at depth d

@@ -8,7 +8,7 @@ use native.Mathlib.Nat.{zero-add}
 use lib.Dec.{eqb, leb}
 use lib.ListN.{length}
 use borrow.Author.Tests.{eqb-true, eq-eqb, leb-true, le-leb}
-use Rattle.lent.specs.Numbers.{be, bytes}
+use Rattle.lent.specs.Numbers.{be, bytes, AreBytes}
 use Rattle.lent.specs.Parts.{part}
 use Rattle.lent.proofs.Parts.{part-part}
 use Rattle.lent.proofs.Digits.{be-bytes}
@@ -19,7 +19,7 @@ use Rattle.region.specs.Layout.{unitRoom, neededBytes, Used, headerBytes}
 use Rattle.region.specs.Opening.{kindByte}
 use Rattle.region.specs.Store.{roomAt}
 use Rattle.audit.specs.Whole.{markOf, leftAt, usedUnits, usedFine, headerFine}
-use Rattle.content.proofs.PartLaws.{AreBytes, bytes-part, part-number, part-both}
+use Rattle.content.proofs.PartLaws.{bytes-part, part-number, part-both}
 
 -- the tests of a header, one by one
 pub record HeaderFine (k : Kind) (s : List ℕ) : Type 0 where

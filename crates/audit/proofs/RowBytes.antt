@@ -7,7 +7,7 @@ use native.Mathlib.Omega.{arith}
 use lib.Dec.{eqb}
 use lib.ListN.{length, take, drop, getD, replicate, length-take, length-drop}
 use borrow.Author.Tests.{eqb-true, eq-eqb}
-use Rattle.lent.specs.Numbers.{be, bytes}
+use Rattle.lent.specs.Numbers.{be, bytes, AreBytes}
 use Rattle.lent.specs.Parts.{part}
 use Rattle.lent.proofs.Parts.{part-eq, length-part}
 use Rattle.lent.proofs.Digits.{be-bytes, be-lt, length-bytes, part-one}
@@ -19,7 +19,7 @@ use Rattle.region.specs.declared.Kind.{Kind}
 use Rattle.forest.specs.Places.{unitAt, lenAt, ownAt, belowAt, levelUnitsAt, rowEnd, kidsEnd, levelIn, ownIn}
 use Rattle.content.specs.Contents.{every, ownFine}
 use Rattle.audit.specs.Tests.{heldAt, endAt, pastAt, marksFine, fillFine}
-use Rattle.content.proofs.PartLaws.{AreBytes, are-drop, are-part, bytes-part, part-number, part-both, part-front, part-back, every-is, is-every, units-length, units-take}
+use Rattle.content.proofs.PartLaws.{are-drop, are-part, bytes-part, part-number, part-both, part-front, part-back, every-is, is-every, units-length, units-take}
 use Rattle.content.proofs.Holdings.{Holding}
 use Rattle.audit.proofs.Down.{RowHere}
 

@@ -6,7 +6,7 @@ use mathlib.Core.Bool.{Bool, true, false, cond}
 use mathlib.Core.Logic.{⊎-elim}
 use mathlib.Core.List.{List}
 use native.Mathlib.Omega.{arith}
-use lib.ListN.{length, length-append, length-map}
+use lib.ListN.{length}
 use Rattle.lent.specs.Parts.{part}
 use Rattle.lent.proofs.Anywhere.{lt-or-ge}
 use Rattle.held.specs.Order.{Level}
@@ -23,13 +23,14 @@ use Rattle.audit.specs.declared.Tally.the-variants.{Sound, Unsound}
 use Rattle.audit.specs.Tests.{endAt, pastAt, nodeFine}
 use Rattle.audit.specs.Tally.{onSound, taken, tally}
 use Rattle.audit.specs.Fine.{Follows, Audited}
-use Rattle.content.proofs.PartLaws.{AreBytes}
+use Rattle.lent.specs.Numbers.{AreBytes}
 use Rattle.content.proofs.Holdings.{Holding}
 use Rattle.audit.proofs.Down.{WrittenAt, RowHere, fork-yes, fork-no}
 use Rattle.audit.proofs.Turns.{tally-none, tally-some, Took, took, takes, sound-is, unsound-not}
 use Rattle.audit.proofs.RowTests.{Tested, tested, passed}
 use Rattle.audit.proofs.RowBytes.{own-length, level-length, end-is, past-is, row-here, below-back, spare-back, past-back, fill-back, holds-back, marks-back}
 use Rattle.audit.proofs.Shapes.{shape-yes, shape-no, order-yes, order-no}
+use Rattle.held.proofs.Lengths.{length-held}
 
 -- the counts of a forest by its first node
 module _ {X : Type 0} where
@@ -44,10 +45,6 @@ module _ {X : Type 0} where
   cells-fork : (l : Level) (v : List X) (k n : Forest X) → cellsF (fork l v k n) ≡ levelCells l + (cellsF k + cellsF n)
   unfolding weighF
   cells-fork l v k n = refl
-
-  held-fork : (l : Level) (v : List X) (k n : Forest X) → length (held (fork l v k n)) ≡ length v + (length (held k) + length (held n))
-  unfolding held
-  held-fork l v k n = simp (length-append, length-map)
 
 -- what is left, count by count
 pub same-left : (a b : Left) → a .nodes ≡ b .nodes → a .pairs ≡ b .pairs → a .cells ≡ b .cells → a ≡ b
@@ -115,7 +112,7 @@ module _ {X : Type 0} {kind : Kind} (u : Holding X kind) (base : ℕ) (s : List 
             y .fine,
           );
           nodes = omega (arith, size-fork L W K N, k .nodes, x .nodes, y .nodes);
-          pairs = omega (arith, held-fork L W K N, lo, k .pairs, x .pairs, y .pairs);
+          pairs = omega (arith, length-held L W K N, lo, k .pairs, x .pairs, y .pairs);
           cells = omega (arith, cells-fork L W K N, k .cells, x .cells, y .cells);
         }
 
@@ -175,7 +172,7 @@ module _ {X : Type 0} {kind : Kind} (u : Holding X kind) (base : ℕ) (s : List 
       back-took =
           record {
             nodes = omega (arith, x .nodes, size-fork L W K N);
-            pairs = omega (arith, x .pairs, held-fork L W K N, own-eq);
+            pairs = omega (arith, x .pairs, length-held L W K N, own-eq);
             cells = omega (arith, x .cells, cells-fork L W K N);
           }
 
@@ -188,7 +185,7 @@ module _ {X : Type 0} {kind : Kind} (u : Holding X kind) (base : ℕ) (s : List 
             marks = rw (← ends-at) at (parts .1 .marks);
             fine = rw level-eq at (x .fine .1);
             nodes = omega (arith, x .nodes, size-fork L W K N);
-            pairs = omega (arith, x .pairs, held-fork L W K N);
+            pairs = omega (arith, x .pairs, length-held L W K N);
             cells = omega (arith, x .cells, cells-fork L W K N);
           }
 
@@ -201,7 +198,7 @@ module _ {X : Type 0} {kind : Kind} (u : Holding X kind) (base : ℕ) (s : List 
             marks = rw (← past-at) at (parts .2 .marks);
             fine = x .fine .2;
             nodes = omega (arith, x .nodes, size-fork L W K N);
-            pairs = omega (arith, x .pairs, held-fork L W K N);
+            pairs = omega (arith, x .pairs, length-held L W K N);
             cells = omega (arith, x .cells, cells-fork L W K N);
           }
 

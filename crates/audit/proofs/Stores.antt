@@ -7,7 +7,7 @@ use native.Mathlib.Omega.{arith}
 use lib.Dec.{eqb}
 use lib.ListN.{length}
 use borrow.Author.Tests.{eqb-true}
-use Rattle.lent.specs.Numbers.{be}
+use Rattle.lent.specs.Numbers.{be, AreBytes}
 use Rattle.lent.specs.Parts.{part}
 use Rattle.held.specs.Order.{Filter}
 use Rattle.held.specs.Ascending.{All}
@@ -33,7 +33,6 @@ use Rattle.content.specs.Texts.{rulesOf, TextFine}
 use Rattle.audit.specs.Fine.{Fine, Audited}
 use Rattle.audit.specs.Whole.{leftAt, usedUnits, unitsBase, none, allTaken, headerFine, storeFine}
 use Rattle.audit.specs.Decides.{StoreOf, Decides}
-use Rattle.content.proofs.PartLaws.{AreBytes}
 use Rattle.content.proofs.Holdings.{Holding, held-values, held-records}
 use Rattle.audit.proofs.Sound.{same-left, audit-sound, audit-passes}
 use Rattle.audit.proofs.Headers.{HeaderFine, header-yes, header-no, header-bytes, mark-back, nodes-back, pairs-back, cells-back, units-back}
@@ -212,7 +211,7 @@ module _ (s : List ℕ) (o : AreBytes s) where
             (names-end 1 65536 (F held-records s o) (r .well .full) (t .0)) (r .well .owns) (r .well .full) (t .0) (λ q. t .1);
       }
 
--- "The test decides it exactly": true of a store of the kind, and of nothing else
+-- the test decides it exactly: true of a store of the kind, and of nothing else
 pub decided : (k : Kind) (s : List ℕ) → AreBytes s → Decides (storeFine k s) (StoreOf k s)
 decided Subscriptions s o = record { yes = λ e. subscriptions-yes s o (kept-yes held-values s o e); no = λ r. kept-no held-values s o (subscriptions-no s o r) }
 decided Retained s o = record { yes = λ e. retained-yes s o (kept-yes held-records s o e); no = λ r. kept-no held-records s o (retained-no s o r) }

@@ -12,10 +12,10 @@ use Rattle.level.specs.Levels.{has}
 use Rattle.level.specs.Kinds.{isOnly, wild}
 use Rattle.held.specs.Order.{Level, Filter}
 use Rattle.held.specs.Ascending.{All}
-use Rattle.held.specs.Forest.{Forest, leaf, fork, held, under, Over, Rows, HashEnds}
-use Rattle.held.specs.Edit.{Owns, Full, HashLast}
+use Rattle.held.specs.Forest.{Forest, leaf, fork, held, under, Over, Rows, HashEnds, Owns, Full}
+use Rattle.held.specs.Edit.{HashLast}
 use Rattle.held.proofs.Edits.{over-mono}
-use Rattle.held.proofs.Entries.{all-map, all-with}
+use Rattle.held.proofs.Entries.{all-map, all-with, all-append, all-before, all-behind}
 use Rattle.held.proofs.Orders.{and-right}
 use Rattle.region.specs.declared.Kind.{Kind}
 use Rattle.region.specs.declared.Kind.the-variants.{Retained}
@@ -25,18 +25,6 @@ use Rattle.audit.specs.Fine.{Follows, Fine}
 
 -- all of two lists, and of a list that was mapped
 module _ {E : Type 0} (P : E → Type 0) where
-  all-append : (l m : List E) → All P l → All P m → All P (l ++ m)
-  all-append [] m a b = b
-  all-append (e ∷ l) m a b = (a .0, all-append l m (a .1) b)
-
-  all-before : (l m : List E) → All P (l ++ m) → All P l
-  all-before [] m a = tt
-  all-before (e ∷ l) m a = (a .0, all-before l m (a .1))
-
-  all-behind : (l m : List E) → All P (l ++ m) → All P m
-  all-behind [] m a = a
-  all-behind (e ∷ l) m a = all-behind l m (a .1)
-
   all-unmap : {D : Type 0} (f : D → E) (l : List D) → All P (map f l) → All (λ d. P (f d)) l
   all-unmap f [] a = tt
   all-unmap f (d ∷ l) a = (a .0, all-unmap f l (a .1))

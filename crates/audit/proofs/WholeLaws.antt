@@ -7,7 +7,7 @@ use native.Mathlib.Omega.{arith}
 use lib.Dec.{eqb, leb}
 use lib.ListN.{length}
 use borrow.Author.Tests.{eq-eqb, ne-eqb, le-leb, lt-leb, not-false, not-true}
-use Rattle.lent.specs.Numbers.{be}
+use Rattle.lent.specs.Numbers.{be, AreBytes}
 use Rattle.lent.specs.Parts.{part}
 use Rattle.lent.specs.Total.{read}
 use Rattle.lent.proofs.Anywhere.{read-in}
@@ -28,7 +28,6 @@ use Rattle.audit.specs.declared.Tally.{Tally}
 use Rattle.audit.specs.Tally.{tally}
 use Rattle.audit.specs.Whole.{markOf, leftAt, usedUnits, unitsBase, none, allTaken, usedFine, headerFine, storeFine}
 use Rattle.audit.specs.Decides.{StoreOf, Decides}
-use Rattle.content.proofs.PartLaws.{AreBytes}
 use Rattle.audit.proofs.Headers.{header-yes}
 use Rattle.audit.proofs.Stores.{decided}
 

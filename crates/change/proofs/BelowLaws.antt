@@ -1,7 +1,7 @@
 -- The units below the nodes that a way goes down from, put right for what now stands at the place. Assumes nothing.
-use mathlib.Core.Path.{_≡_, refl, sym, ap, _∙_}
+use mathlib.Core.Path.{_≡_, refl, ap}
 use mathlib.Core.List.{List, [], _∷_, _++_, append-assoc}
-use Prim.Native.Nat.{ℕ, _+_, _-_, _*_, _≤_, _<_}
+use Prim.Native.Nat.{ℕ, _+_, _-_, _<_}
 use native.Mathlib.Omega.{arith}
 use lib.ListN.{length, length-append}
 use Rattle.lent.specs.Numbers.{bytes}
@@ -13,7 +13,7 @@ use Rattle.region.specs.Layout.{rowUnits, unitsF, headBytes, levelBytes, rowByt
 use Rattle.region.specs.Forms.{Form}
 use Rattle.region.proofs.Decoded.{length-row, length-units}
 use Rattle.forest.specs.Places.{unitAt}
-use Rattle.change.specs.Ways.{past, down, Way, wide, ahead, downs, front}
+use Rattle.change.specs.Ways.{past, down, Way, wide, downs, front}
 use Rattle.room.specs.Changes.{moved, counted, belows}
 use Rattle.room.proofs.Middle.{counted-mid}
 use Rattle.change.proofs.WayLaws.{wide-add}

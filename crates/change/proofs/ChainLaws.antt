@@ -1,17 +1,15 @@
 -- A chain of new nodes is written down as the run of its levels. Assumes nothing.
 use mathlib.Core.Path.{_≡_, refl, sym, ap, _∙_}
 use mathlib.Core.List.{List, [], _∷_, _++_, append-assoc, append-nil}
-use Prim.Native.Nat.{ℕ, suc, _+_, _-_, _*_}
+use Prim.Native.Nat.{ℕ, _+_, _-_}
 use native.Mathlib.Omega.{arith}
-use native.Mathlib.Nat.{add-zero}
-use lib.ListN.{length, replicate}
+use lib.ListN.{length}
 use Rattle.held.specs.Order.{Level, Filter}
-use Rattle.held.specs.Bytes.{each}
 use Rattle.held.specs.Forest.{Forest, leaf, fork}
 use Rattle.held.specs.Edit.{editOwn, chain, weigh}
-use Rattle.region.specs.Layout.{levelUnits, rowUnits, unitsF, headBytes, levelBytes, rowBytes, unitBytes, marksOf}
+use Rattle.region.specs.Layout.{levelUnits, unitsF, rowBytes, unitBytes, marksOf}
 use Rattle.lent.proofs.Turns.{replicate-last}
-use Rattle.room.specs.Runs.{runUnits, lastOwn, runBytes, runMarks}
+use Rattle.room.specs.Runs.{runUnits, runBytes, runMarks}
 use Rattle.change.specs.Ways.{rowMarks}
 use Rattle.change.specs.Reach.{growHere}
 use Rattle.room.proofs.RunLaws.{run-on, marks-on}

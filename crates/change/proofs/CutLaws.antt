@@ -1,29 +1,25 @@
 -- The nodes that go: taking them away is the cut of the forest, and the code finds the first of them. Assumes nothing.
-use mathlib.Core.Path.{_≡_, refl, sym, ap, _∙_}
-use mathlib.Core.Bool.{Bool, true, false, _&&_, true≢false}
-use mathlib.Core.List.{List, [], _∷_, _++_}
-use Prim.Native.Nat.{ℕ, zero, suc, _+_, _-_, _*_, _≤_, _<_}
+use mathlib.Core.Path.{_≡_, refl, ap, _∙_}
+use mathlib.Core.List.{List, [], _∷_}
+use Prim.Native.Nat.{ℕ, _+_, _-_}
 use native.Mathlib.Omega.{arith}
-use native.Mathlib.Nat.{add-zero, zero-add}
-use lib.Dec.{eqb}
-use lib.ListN.{length, take, drop, getD}
-use borrow.Author.Tests.{eq-eqb, ne-eqb, eqb-true}
-use Rattle.held.specs.Order.{Level, Filter, levelLt}
+use lib.ListN.{length}
+use Rattle.held.specs.Order.{Level, Filter}
 use Rattle.held.specs.Room.{levelCells}
-use Rattle.held.specs.Forest.{Forest, leaf, fork, held, Rows}
-use Rattle.held.specs.Edit.{cutF, pruned, weighF, sizeF, cellsF, weigh}
+use Rattle.held.specs.Forest.{Forest, leaf, fork, held}
+use Rattle.held.specs.Edit.{cutF, pruned, weighF, weigh}
 use Rattle.held.proofs.Orders.{level-order, eq-higher}
 use Rattle.held.proofs.Equations.{cut-here, cut-next}
-use Rattle.region.specs.Layout.{levelUnits, rowUnits, unitsF}
+use Rattle.held.proofs.Lengths.{length-held}
+use Rattle.region.specs.Layout.{rowUnits, unitsF}
 use Rattle.forest.proofs.StandsLaws.{fork-units}
 use Rattle.room.specs.declared.Load.{Load}
-use Rattle.change.specs.Ways.{past, down, Way, plug, wide, ahead, downs, deep}
+use Rattle.change.specs.Ways.{Way, plug}
 use Rattle.room.specs.Runs.{runUnits, WantedFor}
 use Rattle.room.specs.Changes.{noLoad}
 use Rattle.change.specs.Cut.{Alone, last, only, CutAt, here, pass, into}
-use Rattle.room.proofs.RunLaws.{units-on, units-none}
 use Rattle.change.proofs.ChainLaws.{weigh-one}
-use Rattle.change.proofs.HoldsLaws.{Changes, length-held}
+use Rattle.change.proofs.HoldsLaws.{Changes}
 use Rattle.change.proofs.ReachLaws.{pruned-fork}
 
 module _ {X : Type 0} (e : List X → List X) where

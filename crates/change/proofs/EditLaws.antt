@@ -1,20 +1,20 @@
 -- The changes along a path of a forest that a region holds: the region then holds the changed forest. Assumes nothing.
-use mathlib.Core.Path.{_≡_, refl, sym, ap, subst, _∙_}
+use mathlib.Core.Path.{_≡_, refl, sym, ap, _∙_}
 use mathlib.Core.List.{List, [], _∷_, _++_, append-nil}
-use Prim.Native.Nat.{ℕ, suc, _+_, _-_, _*_, _≤_, _<_}
+use Prim.Native.Nat.{ℕ, _+_, _-_, _≤_, _<_}
 use native.Mathlib.Omega.{arith}
 use native.Mathlib.Nat.{zero-add}
 use lib.ListN.{length, length-append}
-use Rattle.lent.specs.Parts.{Framed}
+use Rattle.lent.specs.Total.{Framed}
 use Rattle.held.specs.Order.{Level, Filter}
 use Rattle.held.specs.Ascending.{All}
 use Rattle.held.specs.Room.{levelCells}
-use Rattle.held.specs.Forest.{Forest, leaf, fork, held, Rows}
-use Rattle.held.specs.Edit.{editOwn, chain, growF, cutF, Full, weighF, sizeF, cellsF, weigh}
+use Rattle.held.specs.Forest.{Forest, leaf, fork, held, Rows, Full}
+use Rattle.held.specs.Edit.{editOwn, chain, growF, cutF, weighF, weigh}
 use Rattle.held.proofs.RoomLaws.{Within}
-use Rattle.region.specs.Layout.{unitRoom, neededBytes, levelUnits, rowUnits, unitsF, unitBytes, marksOf}
+use Rattle.region.specs.Layout.{unitRoom, neededBytes, levelUnits, rowUnits, unitsF}
 use Rattle.region.specs.Forms.{Form, Fits, leaf-fits, fork-fits}
-use Rattle.region.specs.Store.{roomAt, WrittenIn}
+use Rattle.region.specs.Store.{roomAt}
 use Rattle.region.proofs.Stores.{units-fit}
 use Rattle.forest.specs.Paths.{nodesAt, spotAt}
 use Rattle.forest.proofs.StandsLaws.{ForkFits, fits-fork, fork-units}
@@ -23,14 +23,13 @@ use Rattle.change.specs.Ways.{past, down, Way, plug, wide, ahead, downs,
 use Rattle.change.specs.Reach.{Reach, growHere}
 use Rattle.room.specs.Runs.{runUnits, WantedFor}
 use Rattle.room.specs.Changes.{countsMoved, madeRun, noLoad, oneLoad, madeChain, putUnit, madeUnit, takenRun, takenChain, cutUnit, takenUnit}
-use Rattle.change.specs.View.{View}
 use Rattle.change.specs.Holds.{Holds}
 use Rattle.change.proofs.WayLaws.{units-plug, wide-add, wide-ahead}
-use Rattle.room.proofs.RunLaws.{units-on}
 use Rattle.change.proofs.ReachLaws.{reach-grow, reach-cut, reach-nodes, reach-spot}
 use Rattle.change.proofs.ChainLaws.{weigh-one, units-split, before-units}
-use Rattle.change.proofs.HoldsLaws.{Changes, fits-plug, holds-view, room-small, units-within, change-held, change-room, change-framed, length-held}
+use Rattle.change.proofs.HoldsLaws.{Changes, holds-view, room-small, units-within, change-held, change-room, change-framed}
 use Rattle.change.proofs.PlaceLaws.{chain-view, chain-framed, unit-view, unit-framed, less-view, less-framed, taken-view, taken-framed}
+use Rattle.held.proofs.Lengths.{length-held}
 
 -- how deep a place is
 pub deep-downs : {X : Type 0} (d at : ℕ) (w : Way X) → deep d w ≡ length (downs at w) + d

@@ -1,20 +1,19 @@
 -- Where the code finds the nodes of a path: what stands at a place, and which nodes stay when the last thing goes. Assumes nothing.
-use mathlib.Core.Path.{_≡_, refl, sym, ap, subst, _∙_}
+use mathlib.Core.Path.{_≡_, refl, sym, ap, _∙_}
 use mathlib.Core.Bool.{Bool, true, false, _&&_, true≢false}
-use mathlib.Core.List.{List, [], _∷_, _++_, append-nil}
-use mathlib.Core.Logic.{⊎-elim}
-use Prim.Native.Nat.{ℕ, zero, suc, _+_, _-_, _*_, _≤_, _<_}
+use mathlib.Core.List.{List, [], _∷_}
+use Prim.Native.Nat.{ℕ, zero, suc, _+_, _-_, _≤_, _<_}
 use native.Mathlib.Omega.{arith}
 use native.Mathlib.Nat.{add-zero}
 use lib.Dec.{eqb}
 use lib.ListN.{length, take, drop, getD}
-use borrow.Author.Tests.{eq-eqb, ne-eqb, eqb-true, eqb-false}
+use borrow.Author.Tests.{eq-eqb, eqb-true}
 use Rattle.held.specs.Order.{Level, Filter, levelLt}
 use Rattle.held.specs.Forest.{Forest, leaf, fork, Rows}
 use Rattle.held.proofs.Orders.{and-left, and-right}
-use Rattle.region.specs.Layout.{levelUnits, rowUnits, unitsF}
+use Rattle.region.specs.Layout.{rowUnits, unitsF}
 use Rattle.region.specs.Forms.{Form}
-use Rattle.forest.specs.Places.{unitAt, ownAt, rowEnd, kidsEnd}
+use Rattle.forest.specs.Places.{ownAt, rowEnd, kidsEnd}
 use Rattle.forest.specs.Stands.{Stands}
 use Rattle.forest.specs.Paths.{nodesAt}
 use Rattle.forest.proofs.StandsLaws.{fork-units, stands-own, stands-end, stands-past, stands-kids, stands-next}

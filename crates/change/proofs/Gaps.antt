@@ -1,14 +1,14 @@
 -- Bytes put between others by opening a gap, and taken away by closing one, in one part of a region. Assumes nothing.
 use mathlib.Core.Path.{_≡_, refl, sym, ap, _∙_}
-use mathlib.Core.List.{List, [], _∷_, _++_, append-assoc, append-nil}
-use Prim.Native.Nat.{ℕ, _+_, _-_, _*_, _≤_, _<_}
+use mathlib.Core.List.{List, [], _++_, append-assoc, append-nil}
+use Prim.Native.Nat.{ℕ, _+_, _-_, _≤_}
 use native.Mathlib.Omega.{arith}
-use lib.ListN.{length, take, drop, length-append}
+use lib.ListN.{length, take, length-append}
 use lib.Seq.{take-at, drop-at}
-use Rattle.lent.specs.Parts.{part, patch, Framed}
-use Rattle.lent.specs.Total.{write, opened, closed}
-use Rattle.lent.proofs.Parts.{part-add, part-part, length-part, length-patch, part-patch, part-patch-before, part-patch-after, framed-patch, framed-trans, framed-wider}
-use Rattle.lent.proofs.Anywhere.{write-in, open-in, close-in}
+use Rattle.lent.specs.Parts.{part, patch}
+use Rattle.lent.specs.Total.{Framed, opened, closed}
+use Rattle.lent.proofs.Parts.{part-add, part-part, length-part, length-patch, part-patch, part-patch-before, part-patch-after, framed-patch, framed-trans}
+use Rattle.lent.proofs.Anywhere.{open-in, close-in}
 
 -- the part from b on is x and then y, or x, r and then y
 module _ (b e : ℕ) (s x y : List ℕ) (holds : part b e s ≡ x ++ y) (within : b + e ≤ length s) where

@@ -1,12 +1,11 @@
 -- The header of a region whose counts are moved. Assumes nothing.
-use mathlib.Core.Path.{_≡_, refl, sym, ap, _∙_}
-use mathlib.Core.List.{List, [], _∷_, _++_, append-assoc}
+use mathlib.Core.Path.{_≡_, sym, ap, _∙_}
+use mathlib.Core.List.{List, _∷_, _++_, append-assoc}
 use Prim.Native.Nat.{ℕ, _+_, _-_, _≤_, _<_}
-use native.Mathlib.Omega.{arith}
-use native.Mathlib.Nat.{zero-add}
-use lib.ListN.{length, take, drop, length-append}
+use lib.ListN.{length, drop, length-append}
 use Rattle.lent.specs.Numbers.{bytes}
-use Rattle.lent.specs.Parts.{part, Framed}
+use Rattle.lent.specs.Parts.{part}
+use Rattle.lent.specs.Total.{Framed}
 use Rattle.lent.proofs.Digits.{length-bytes}
 use Rattle.held.specs.Room.{Room}
 use Rattle.region.specs.Layout.{Used, headerBytes}

@@ -1,25 +1,26 @@
 -- A change at a place of a forest that a region holds: the region holds the changed forest. Assumes nothing.
-use mathlib.Core.Path.{_≡_, refl, sym, ap, subst, _∙_}
+use mathlib.Core.Path.{_≡_, sym, ap, subst, _∙_}
 use mathlib.Core.Bool.{true}
-use mathlib.Core.List.{List, [], _∷_, _++_, map}
+use mathlib.Core.List.{List, [], _∷_}
 use Prim.Native.Nat.{ℕ, _+_, _-_, _*_, _≤_, _<_}
 use native.Mathlib.Omega.{arith}
-use lib.ListN.{length, length-append, length-map}
-use Rattle.lent.specs.Parts.{part, Framed}
+use lib.ListN.{length}
+use Rattle.lent.specs.Parts.{part}
+use Rattle.lent.specs.Total.{Framed}
 use Rattle.lent.proofs.Parts.{framed-trans, framed-before, framed-after, framed-wider}
-use Rattle.held.specs.Order.{Level, Filter}
+use Rattle.held.specs.Order.{Level}
 use Rattle.held.specs.Room.{Room, inRange, nodeCount, levelCells, cellCount}
-use Rattle.held.specs.Forest.{Forest, leaf, fork, held, Rows}
-use Rattle.held.specs.Edit.{Full, weighF, sizeF, cellsF}
+use Rattle.held.specs.Forest.{Forest, held, Rows, Full}
+use Rattle.held.specs.Edit.{weighF, sizeF, cellsF}
 use Rattle.held.proofs.Counts.{node-count, cell-count}
 use Rattle.held.proofs.Bounds.{in-range}
 use Rattle.held.proofs.RoomLaws.{Within}
-use Rattle.region.specs.Layout.{unitRoom, neededBytes, unitsF, unitBytes, marksOf, Used, headerBytes}
-use Rattle.region.specs.Forms.{Form, Fits, leaf-fits, fork-fits}
-use Rattle.region.specs.Store.{roomAt, usedBy, WrittenIn}
+use Rattle.region.specs.Layout.{unitRoom, neededBytes, unitsF, unitBytes, marksOf, headerBytes}
+use Rattle.region.specs.Forms.{Form, Fits, fork-fits}
+use Rattle.region.specs.Store.{roomAt, usedBy}
 use Rattle.region.proofs.Sizes.{few-units}
 use Rattle.region.proofs.Stores.{units-fit, header-room}
-use Rattle.forest.proofs.StandsLaws.{ForkFits, fits-fork}
+use Rattle.forest.proofs.StandsLaws.{fits-fork}
 use Rattle.room.specs.declared.Load.{Load}
 use Rattle.change.specs.Ways.{past, down, Way, plug, wide}
 use Rattle.room.specs.Changes.{moved, countsMoved}
@@ -27,6 +28,7 @@ use Rattle.change.specs.View.{View}
 use Rattle.change.specs.Holds.{Holds}
 use Rattle.change.proofs.WayLaws.{units-plug, wide-add}
 use Rattle.change.proofs.HeaderLaws.{usedMoved, SmallUsed, header-moved, framed-moved}
+use Rattle.held.proofs.Lengths.{length-held}
 
 -- what is counted in all changes as it does at the place
 module _ {X : Type 0} where
@@ -35,10 +37,6 @@ module _ {X : Type 0} where
   weigh-plug c [] G H = omega arith
   weigh-plug c (past t v k ∷ w) G H = omega (arith, weigh-plug c w G H)
   weigh-plug c (down t v n ∷ w) G H = omega (arith, weigh-plug c w G H)
-
-  pub length-held : (t : Level) (v : List X) (k n : Forest X) → length (held (fork t v k n)) ≡ length v + (length (held k) + length (held n))
-  unfolding held
-  length-held t v k n = rw (length-append, length-append, length-map, length-map)
 
   pub wide-moves : (w : Way X) (b c : ℕ) → wide w c + b ≡ wide w b + c
   wide-moves w b c = let e : c + b ≡ b + c = omega arith in omega (arith, wide-add w c b, wide-add w b c, ap (wide w) e)

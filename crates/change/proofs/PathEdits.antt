@@ -1,12 +1,12 @@
 -- The four changes along a path of a forest that a region holds, for any such forest. Assumes nothing.
-use mathlib.Core.Path.{_≡_, refl, sym, ap, subst, _∙_}
+use mathlib.Core.Path.{_≡_, sym, ap, subst, _∙_}
 use mathlib.Core.List.{List, [], _∷_, _++_}
 use Prim.Native.Nat.{ℕ, _+_}
 use native.Mathlib.Omega.{arith}
 use lib.ListN.{length}
 use Rattle.held.specs.Order.{Level, Filter}
-use Rattle.held.specs.Forest.{Forest, leaf, fork, held, Rows}
-use Rattle.held.specs.Edit.{growF, cutF, missing, Full}
+use Rattle.held.specs.Forest.{Forest, leaf, fork, held, Full}
+use Rattle.held.specs.Edit.{growF, cutF}
 use Rattle.held.proofs.Edits.{rows-grow, rows-cut}
 use Rattle.held.proofs.RoomLaws.{Within}
 use Rattle.region.specs.Layout.{unitRoom, levelUnits, unitsF}

@@ -1,23 +1,22 @@
 -- The four changes at a place, in the units and marks of a region: new nodes, a unit more, a unit less, nodes taken away.
 -- Assumes nothing.
-use mathlib.Core.Path.{_≡_, refl, sym, ap, subst, _∙_}
-use mathlib.Core.List.{List, [], _∷_, _++_, append-assoc, append-nil}
+use mathlib.Core.Path.{_≡_, refl, sym, ap, _∙_}
+use mathlib.Core.List.{List, [], _∷_, _++_, append-assoc}
 use Prim.Native.Nat.{ℕ, zero, suc, _+_, _-_, _*_, _≤_, _<_}
 use native.Mathlib.Omega.{arith}
 use native.Mathlib.Nat.{add-comm, zero-add}
-use lib.ListN.{length, take, drop, replicate, length-append, length-replicate, length-take, length-drop, take-append-drop}
-use Rattle.lent.specs.Parts.{part, patch, Framed}
-use Rattle.lent.specs.Total.{write, opened, closed}
+use lib.ListN.{length, replicate, length-append, length-replicate}
+use Rattle.lent.specs.Total.{Framed, write}
 use Rattle.lent.proofs.Parts.{framed-trans}
 use Rattle.held.specs.Order.{Level, Filter}
 use Rattle.held.specs.Bytes.{each}
 use Rattle.held.specs.Forest.{Forest, leaf, fork}
-use Rattle.region.specs.Layout.{levelUnits, rowUnits, unitsF, headBytes, levelBytes, rowBytes, unitBytes, marksOf}
+use Rattle.region.specs.Layout.{levelUnits, unitsF, headBytes, levelBytes, rowBytes, unitBytes, marksOf}
 use Rattle.region.specs.Forms.{Form}
 use Rattle.region.proofs.Decoded.{length-head, length-level, length-each, length-units}
 use Rattle.forest.specs.Places.{unitAt}
 use Rattle.forest.proofs.StandsLaws.{fork-units, length-marks}
-use Rattle.change.specs.Ways.{Way, plug, wide, ahead, downs, front, behind, deep, rowMarks, markFront, markBehind}
+use Rattle.change.specs.Ways.{Way, plug, wide, ahead, downs, front, behind, deep, markFront, markBehind}
 use Rattle.change.specs.Reach.{growHere}
 use Rattle.room.specs.Runs.{runUnits, runBytes, runMarks}
 use Rattle.room.specs.Changes.{moved, counted, belows, madeRun, between, putUnit, takenRun, cutUnit}

@@ -1,15 +1,15 @@
 -- Every path leads somewhere; there the code finds it, and there a change is made. Assumes nothing.
-use mathlib.Core.Path.{_≡_, refl, sym, ap, _∙_}
+use mathlib.Core.Path.{_≡_, refl, ap, _∙_}
 use mathlib.Core.Bool.{true, false, true≢false}
 use mathlib.Core.List.{List, [], _∷_, _++_}
 use Prim.Native.Nat.{ℕ, suc, _+_}
 use native.Mathlib.Omega.{arith}
 use native.Mathlib.Nat.{add-zero}
 use lib.ListN.{length}
-use Rattle.level.specs.Kinds.{same}
 use Rattle.held.specs.Order.{Level, Filter, levelLt}
-use Rattle.held.specs.Forest.{Forest, leaf, fork, miss, hit, kid, Over, Rows}
-use Rattle.held.specs.Edit.{editOwn, chain, growF, pruned, cutF, missing}
+use Rattle.held.specs.Forest.{Forest, leaf, fork, Rows}
+use Rattle.held.specs.Walks.{kid}
+use Rattle.held.specs.Edit.{chain, growF, pruned, cutF, missing}
 use Rattle.held.proofs.Orders.{Tri, lower, alike, higher, tri, asym, eq-higher, level-order}
 use Rattle.held.proofs.Equations.{kid-here, kid-next, kid-past, grow-before, grow-after, grow-here, cut-here, cut-next}
 use Rattle.region.specs.Layout.{rowUnits, unitsF}

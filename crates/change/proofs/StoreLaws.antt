@@ -1,10 +1,9 @@
 -- A store holds the forest that is decoded from it; and a region that holds a well-formed forest is a store of it. Assumes nothing.
-use mathlib.Core.Path.{_≡_, refl, sym, ap, subst, _∙_}
-use mathlib.Core.List.{List, [], _∷_, _++_}
+use mathlib.Core.Path.{_≡_, refl, sym, ap, _∙_}
+use mathlib.Core.List.{List, _++_}
 use mathlib.Core.Option.{Option, none, some}
-use Prim.Native.Nat.{ℕ, _+_, _*_, _%_, _^_, _≤_, _<_}
+use Prim.Native.Nat.{ℕ, _+_, _%_, _^_, _<_}
 use native.Mathlib.Omega.{arith}
-use lib.ListN.{length}
 use Rattle.lent.specs.Numbers.{bytes, be}
 use Rattle.lent.specs.Parts.{part}
 use Rattle.lent.proofs.Digits.{be-bytes, bytes-mod}
@@ -12,18 +11,17 @@ use Rattle.topic.specs.Rules.{filterRules, nameRules}
 use Rattle.held.specs.Order.{Filter}
 use Rattle.held.specs.Ascending.{All}
 use Rattle.held.specs.Retained.{Stored}
-use Rattle.held.specs.Forest.{Forest, leaf, held, Rows}
-use Rattle.held.specs.Edit.{Full, WellFormed, WellNamed}
-use Rattle.region.specs.Layout.{unitRoom, unitsF, unitBytes}
+use Rattle.held.specs.Forest.{Forest, held, Rows, Full, WellFormed, WellNamed}
+use Rattle.region.specs.Layout.{unitsF, unitBytes}
 use Rattle.region.specs.Units.{valueBytes, valueOf, momentBytes, storedBytes, storedOf}
-use Rattle.region.specs.Forms.{Form, Fits}
+use Rattle.region.specs.Forms.{Form, Fits, SmallMoment, SmallStored}
 use Rattle.region.specs.Decode.{decode}
 use Rattle.region.specs.Store.{roomAt, forestAt, usedBy, WrittenIn, Accepts, SubscriptionStore, RetainedStore}
 use Rattle.region.proofs.Sizes.{few-units}
 use Rattle.region.proofs.Stores.{header-field, units-read, units-fit}
 use Rattle.region.proofs.Decoded.{decode-units}
 use Rattle.region.proofs.Fitted.{fits-back}
-use Rattle.region.proofs.Instances.{values, records, SmallMoment, SmallStored}
+use Rattle.region.proofs.Instances.{values, records}
 use Rattle.change.specs.Holds.{Holds}
 
 -- the units that a header tells of are those of the forest

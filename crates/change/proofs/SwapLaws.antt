@@ -1,20 +1,21 @@
 -- A unit that a node holds, written over by another: the region holds the changed forest, and nothing else changes. Assumes nothing.
-use mathlib.Core.Path.{_≡_, refl, sym, ap, subst, _∙_}
+use mathlib.Core.Path.{_≡_, sym, ap, subst, _∙_}
 use mathlib.Core.Bool.{true}
 use mathlib.Core.List.{List, [], _∷_, _++_}
-use Prim.Native.Nat.{ℕ, _+_, _-_, _*_, _≤_, _<_}
+use Prim.Native.Nat.{ℕ, _+_, _-_, _*_, _≤_}
 use native.Mathlib.Omega.{arith}
 use lib.ListN.{length, length-append}
-use Rattle.lent.specs.Parts.{part, patch, Framed}
-use Rattle.lent.proofs.Parts.{part-add, length-part, part-patch, part-patch-before, part-patch-after, length-patch, framed-patch, framed-before, framed-wider}
+use Rattle.lent.specs.Parts.{part, patch}
+use Rattle.lent.specs.Total.{Framed}
+use Rattle.lent.proofs.Parts.{part-add, length-part, part-patch, part-patch-before, part-patch-after, framed-patch, framed-before, framed-wider}
 use Rattle.held.specs.Order.{Level, Filter}
 use Rattle.held.specs.Ascending.{All}
 use Rattle.held.specs.Room.{Room, inRange, nodeCount, levelCells, cellCount}
-use Rattle.held.specs.Forest.{Forest, fork, held, Rows}
-use Rattle.held.specs.Edit.{growF, Full, weighF}
+use Rattle.held.specs.Forest.{Forest, fork, held, Rows, Full}
+use Rattle.held.specs.Edit.{growF, weighF}
 use Rattle.held.proofs.Counts.{node-count, cell-count}
 use Rattle.held.proofs.Edits.{rows-grow}
-use Rattle.region.specs.Layout.{unitRoom, neededBytes, levelUnits, unitsF, unitBytes, marksOf, Used, headerBytes}
+use Rattle.region.specs.Layout.{unitRoom, neededBytes, levelUnits, unitsF, unitBytes, marksOf, headerBytes}
 use Rattle.region.specs.Forms.{Form, Fits, fork-fits}
 use Rattle.region.specs.Store.{roomAt, usedBy}
 use Rattle.region.proofs.Stores.{header-room}
@@ -25,10 +26,11 @@ use Rattle.change.specs.Reach.{Reach, growHere}
 use Rattle.change.specs.Holds.{Holds}
 use Rattle.change.proofs.WayLaws.{units-plug, bytes-plug, marks-plug, wide-ahead}
 use Rattle.change.proofs.ReachLaws.{reach-grow, reach-plug}
-use Rattle.change.proofs.HoldsLaws.{weigh-plug, held-plug, length-held, units-within, room-small, fits-plug}
+use Rattle.change.proofs.HoldsLaws.{weigh-plug, held-plug, units-within, room-small, fits-plug}
 use Rattle.change.proofs.Gaps.{first-is, rest-is}
 use Rattle.change.proofs.PlaceLaws.{lead, trail, row-units-with, row-marks-with, lead-long}
 use Rattle.change.proofs.EditLaws.{Becomes, fits-at}
+use Rattle.held.proofs.Lengths.{length-held}
 
 -- bytes between others, written over by as many
 module _ (b e : ℕ) (s x y z : List ℕ) (holds : part b e s ≡ x ++ (y ++ z)) (within : b + e ≤ length s) (r : List ℕ) (same : length r ≡ length y) where

@@ -1,22 +1,21 @@
 -- What the steps of a change do to the units and marks of a region, and that they change nothing else. Assumes nothing.
-use mathlib.Core.Path.{_≡_, refl, sym, ap, subst, _∙_}
-use mathlib.Core.List.{List, [], _∷_, _++_, append-assoc}
+use mathlib.Core.Path.{_≡_, sym, ap, _∙_}
+use mathlib.Core.List.{List, _++_, append-assoc}
 use Prim.Native.Nat.{ℕ, _+_, _-_, _*_, _≤_, _<_}
 use native.Mathlib.Omega.{arith}
-use native.Mathlib.Nat.{add-zero}
 use lib.ListN.{length, take, drop, length-append, length-take, length-drop, take-append-drop}
 use lib.Seq.{take-at, drop-at, drop-drop}
 use Rattle.lent.specs.Numbers.{bytes}
-use Rattle.lent.specs.Parts.{part, patch, Framed}
-use Rattle.lent.specs.Total.{read, write, opened, closed}
-use Rattle.lent.proofs.Parts.{part-eq, length-part, framed-trans, framed-before, framed-after, framed-wider, framed-same}
+use Rattle.lent.specs.Parts.{part, patch}
+use Rattle.lent.specs.Total.{Framed, write, opened, closed}
+use Rattle.lent.proofs.Parts.{part-eq, length-part, framed-trans, framed-before, framed-after, framed-wider}
 use Rattle.lent.proofs.Digits.{length-bytes}
 use Rattle.held.specs.Order.{Level}
 use Rattle.region.specs.Layout.{headBytes}
 use Rattle.region.proofs.Decoded.{length-head}
 use Rattle.region.specs.Forms.{Form}
 use Rattle.forest.specs.Places.{unitAt}
-use Rattle.change.specs.Ways.{Way, wide, ahead, downs, front}
+use Rattle.change.specs.Ways.{Way, wide, downs, front}
 use Rattle.room.specs.Changes.{moved, counted, belows}
 use Rattle.change.specs.View.{View}
 use Rattle.room.proofs.Middle.{part-mid, counted-mid}

@@ -1,16 +1,16 @@
 -- A forest with something plugged in: its units and marks are those before the place, those of what is there, and those
 -- behind. Assumes nothing.
-use mathlib.Core.Path.{_≡_, refl, sym, ap, _∙_}
-use mathlib.Core.List.{List, [], _∷_, _++_, append-assoc, append-nil}
-use Prim.Native.Nat.{ℕ, _+_, _-_, _*_, _≤_, _<_}
+use mathlib.Core.Path.{_≡_, refl, _∙_}
+use mathlib.Core.List.{[], _∷_, _++_, append-assoc, append-nil}
+use Prim.Native.Nat.{ℕ, _+_, _-_, _*_, _≤_}
 use native.Mathlib.Omega.{arith}
-use lib.ListN.{length, replicate, length-append, length-replicate}
-use Rattle.held.specs.Forest.{Forest, leaf, fork}
-use Rattle.region.specs.Layout.{rowUnits, unitsF, rowBytes, unitBytes, marksOf}
+use lib.ListN.{length, length-append, length-replicate}
+use Rattle.held.specs.Forest.{Forest}
+use Rattle.region.specs.Layout.{unitsF, unitBytes, marksOf}
 use Rattle.region.specs.Forms.{Form}
 use Rattle.region.proofs.Decoded.{length-row, length-units}
 use Rattle.forest.proofs.StandsLaws.{fork-units, length-marks}
-use Rattle.change.specs.Ways.{Frame, past, down, Way, plug, wide, ahead, downs, front, behind, deep, rowMarks, markFront, markBehind}
+use Rattle.change.specs.Ways.{past, down, Way, plug, wide, ahead, front, behind, deep, markFront, markBehind}
 
 module _ {X : Type 0} where
   pub units-plug : (w : Way X) (G : Forest X) → unitsF (plug w G) ≡ wide w (unitsF G)

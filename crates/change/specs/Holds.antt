@@ -2,8 +2,7 @@
 -- children, and its numbers fit. Assumes nothing.
 use Prim.Native.Nat.{ℕ}
 use mathlib.Core.List.{List}
-use Rattle.held.specs.Forest.{Forest, Rows}
-use Rattle.held.specs.Edit.{Full}
+use Rattle.held.specs.Forest.{Forest, Rows, Full}
 use Rattle.region.specs.Forms.{Form, Fits}
 use Rattle.region.specs.Store.{WrittenIn}
 

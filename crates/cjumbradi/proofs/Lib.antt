@@ -1,3 +1,4 @@
 pub mod Openings
 pub mod Tellings
 pub mod Moments
+pub mod Settled

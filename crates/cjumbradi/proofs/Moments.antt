@@ -1,8 +1,7 @@
 -- A moment as a caller gives it. Assumes nothing.
-use mathlib.Core.Path.{_≡_, refl, subst}
+use mathlib.Core.Path.{_≡_, subst}
 use mathlib.Core.List.{List}
 use Prim.Native.Nat.{ℕ}
-use lib.Dec.{eqb}
 use borrow.Author.Tests.{eq-eqb, ne-eqb}
 use Rattle.refusal.specs.Refusals.{Told}
 use Rattle.held.specs.Retained.{set}

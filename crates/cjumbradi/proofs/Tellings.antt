@@ -1,5 +1,5 @@
 -- Laws of what a caller is told. Assumes nothing.
-use mathlib.Core.Path.{_≡_, refl, sym, ap, _∙_}
+use mathlib.Core.Path.{_≡_, sym, ap, _∙_}
 use Prim.Native.Nat.{ℕ, _-_}
 use mathlib.Core.List.{List}
 use native.Mathlib.Omega.{arith}
@@ -21,9 +21,12 @@ said of e q = e ∙ ap of q
 pub told-arm : {A : Type 0} (of : A → Told) {x y : A} {t : Told} → t ≡ of y → x ≡ y → t ≡ of x
 told-arm of e q = e ∙ ap of (sym q)
 
--- another value of an answer
-pub value-arm : {A : Type 0} (of : A → ℕ) {x y : A} {k : ℕ} → k ≡ of y → x ≡ y → k ≡ of x
-value-arm of e q = e ∙ ap of (sym q)
+-- and with another value, or with two
+pub told-two : {A : Type 0} (of : A → Told × ℕ) {x y : A} {t : Told} {k : ℕ} → t ≡ of y .0 → k ≡ of y .1 → x ≡ y → (t, k) ≡ of x
+told-two of e f q = rw (e, f, q)
+
+pub told-three : {A : Type 0} (of : A → Told × ℕ × ℕ) {x y : A} {t : Told} {k l : ℕ} → t ≡ of y .0 → k ≡ of y .1 → l ≡ of y .2 → x ≡ y → (t, k, l) ≡ of x
+told-three of e f g q = rw (e, f, g, q)
 
 -- a level's length, from where it begins and where it ends
 pub part-length : (s : List ℕ) (k : ℕ) {from end : ℕ} → from ≡ placeAt s k → end ≡ endOf s from → end - from ≡ length (partAt s k)

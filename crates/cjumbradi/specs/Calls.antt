@@ -1,6 +1,5 @@
 -- TO BELIEVE. What a C caller is told: each call returns the number of the refusal, 0 for none, and hands back a value,
 -- which is what it found, or the place of the refusal. Assumes nothing.
-use Prim.Native.Nat.{ℕ}
 use mathlib.Core.Bool.{Bool, cond}
 use Rattle.refusal.specs.Refusals.{Told, _at_, told}
 use Rattle.level.specs.declared.Kind.{Kind}

@@ -20,43 +20,18 @@ abbrev pub ofOutcome : Outcome → Told
 ofOutcome (answered n) = 0 at n
 ofOutcome (refused r) = told r
 
+-- a listing or a lookup: its bytes, and its number of records, which is 0 where it is refused
+abbrev pub ofListed : Listed → Told × ℕ
+ofListed (Given bytes records) = (0 at bytes, records)
+ofListed (NotGiven r) = (told r, 0)
+
+-- a page: also 1 if more follows, and 0 if not or where it is refused
+abbrev pub ofPaged : Paged → Told × ℕ × ℕ
+ofPaged (PageGiven bytes records more) = (0 at bytes, records, cond more 1 0)
+ofPaged (NoPage r) = (told r, 0, 0)
+
 -- an answer that keeps the call's promise, and what is told of it
-pub record Tells {A : Type 0} (of : A → Told) (Promised : A → Type 0) (t : Told) : Type 0 where
+pub record Tells {A T : Type 0} (of : A → T) (Promised : A → Type 0) (t : T) : Type 0 where
   pub answer : A
   pub promised : Promised answer
   pub said : t ≡ of answer
-
--- a listing or a lookup: its bytes, and its number of records, which is 0 where it is refused
-abbrev pub ofListed : Listed → Told
-ofListed (Given bytes records) = 0 at bytes
-ofListed (NotGiven r) = told r
-
-abbrev pub recordsOf : Listed → ℕ
-recordsOf (Given bytes records) = records
-recordsOf (NotGiven r) = 0
-
-pub record TellsListing (Promised : Listed → Type 0) (t : Told) (records : ℕ) : Type 0 where
-  pub answer : Listed
-  pub promised : Promised answer
-  pub said : t ≡ ofListed answer
-  pub counted : records ≡ recordsOf answer
-
--- a page: also 1 if more follows, and 0 if not or where it is refused
-abbrev pub ofPaged : Paged → Told
-ofPaged (PageGiven bytes records more) = 0 at bytes
-ofPaged (NoPage r) = told r
-
-abbrev pub pageRecordsOf : Paged → ℕ
-pageRecordsOf (PageGiven bytes records more) = records
-pageRecordsOf (NoPage r) = 0
-
-abbrev pub followsOf : Paged → ℕ
-followsOf (PageGiven bytes records more) = cond more 1 0
-followsOf (NoPage r) = 0
-
-pub record TellsPage (Promised : Paged → Type 0) (t : Told) (records follows : ℕ) : Type 0 where
-  pub answer : Paged
-  pub promised : Promised answer
-  pub said : t ≡ ofPaged answer
-  pub counted : records ≡ pageRecordsOf answer
-  pub more-told : follows ≡ followsOf answer

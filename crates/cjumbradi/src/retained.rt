@@ -8,7 +8,7 @@ ghost use Rattle.edit.specs.Calls.{Calls};
 ghost use Rattle.edit.specs.Counts.{Counts};
 ghost use Rattle.retain.specs.Calls.{heldIn, retainedStore, storedAs};
 ghost use Rattle.retain.specs.Lookups.{Looks, Pages};
-ghost use Rattle.cjumbradi.specs.Stores.{ofChanged, ofOutcome, Tells, TellsListing, TellsPage};
+ghost use Rattle.cjumbradi.specs.Stores.{ofChanged, ofListed, ofPaged, ofOutcome, Tells};
 ghost use Rattle.cjumbradi.specs.Moments.{momentGiven};
 use crate::telling::tell_changed;
 use crate::telling::tell_listed;
@@ -51,7 +51,7 @@ pub extern "C" fn cjumbradi_lookup(
     bytes: &mut u64,
     records: &mut u64,
 ) -> u64
-    ensures { λ n. ⌜ TellsListing (Looks (now (region .entry)) (now (filter .entry)) clock (now (out .entry)) (now (out .exit))) (n at now (bytes .exit)) (now (records .exit)) ⌝ }
+    ensures { λ n. ⌜ Tells ofListed (Looks (now (region .entry)) (now (filter .entry)) clock (now (out .entry)) (now (out .exit))) (n at now (bytes .exit), now (records .exit)) ⌝ }
 {
     tell_listed(retain::get(region, filter, clock, out), bytes, records)
 }
@@ -67,7 +67,7 @@ pub extern "C" fn cjumbradi_page(
     records: &mut u64,
     more: &mut u64,
 ) -> u64
-    ensures { λ n. ⌜ TellsPage (Pages (now (region .entry)) clock offset limit (now (out .entry)) (now (out .exit))) (n at now (bytes .exit)) (now (records .exit)) (now (more .exit)) ⌝ }
+    ensures { λ n. ⌜ Tells ofPaged (Pages (now (region .entry)) clock offset limit (now (out .entry)) (now (out .exit))) (n at now (bytes .exit), now (records .exit), now (more .exit)) ⌝ }
 {
     let page = retain::get_all_paginated(region, clock, offset, limit, out);
     tell_paged(page, bytes, records, more)

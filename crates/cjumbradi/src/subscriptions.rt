@@ -9,7 +9,7 @@ ghost use Rattle.trie.specs.Listings.{Asks, Lists};
 ghost use Rattle.region.specs.Store.{SubscriptionStore};
 ghost use Rattle.edit.specs.Counts.{Counts};
 ghost use Rattle.cjumbradi.specs.Calls.{ofMatched};
-ghost use Rattle.cjumbradi.specs.Stores.{ofChanged, ofOutcome, Tells, TellsListing};
+ghost use Rattle.cjumbradi.specs.Stores.{ofChanged, ofListed, ofOutcome, Tells};
 use crate::telling::tell_changed;
 use crate::telling::tell_listed;
 use crate::telling::tell_matched;
@@ -55,7 +55,7 @@ pub extern "C" fn cjumbradi_listing(
     bytes: &mut u64,
     records: &mut u64,
 ) -> u64
-    ensures { λ n. ⌜ TellsListing (Lists (now (region .entry)) (now (name .entry)) (now (out .entry)) (now (out .exit))) (n at now (bytes .exit)) (now (records .exit)) ⌝ }
+    ensures { λ n. ⌜ Tells ofListed (Lists (now (region .entry)) (now (name .entry)) (now (out .entry)) (now (out .exit))) (n at now (bytes .exit), now (records .exit)) ⌝ }
 {
     tell_listed(trie::matches(region, name, out), bytes, records)
 }

@@ -6,7 +6,7 @@ ghost use Rattle.cjumbradi.specs.Calls.{ofChecked, ofParsed, ofMatched, 
 ghost use Rattle.cjumbradi.specs.Regions.{ofSize};
 ghost use Rattle.trie.specs.Sizes.{nodesTold, valuesTold};
 ghost use Rattle.retain.specs.Counted.{namesTold};
-ghost use Rattle.cjumbradi.specs.Stores.{ofChanged, ofListed, recordsOf, ofPaged, pageRecordsOf, followsOf, ofOutcome};
+ghost use Rattle.cjumbradi.specs.Stores.{ofChanged, ofListed, ofPaged, ofOutcome};
 use edit::Changed;
 use edit::Listed;
 use level::Kind;
@@ -105,7 +105,7 @@ pub fn tell_changed(changed: Changed, value: &mut u64) -> u64
 
 // A listing or a lookup has two values: its bytes, or the place of the refusal, and its records.
 pub fn tell_listed(listed: Listed, value: &mut u64, count: &mut u64) -> u64
-    ensures { λ n. ⌜ ((n at now (value .exit)) ≡ ofListed listed) × (now (count .exit) ≡ recordsOf listed) ⌝ }
+    ensures { λ n. ⌜ (n at now (value .exit), now (count .exit)) ≡ ofListed listed ⌝ }
 {
     match listed {
         Listed::Given { bytes, records } => {
@@ -130,7 +130,7 @@ fn one_if(yes: bool) -> u64
 
 // A page has three: also whether more follows.
 pub fn tell_paged(paged: Paged, value: &mut u64, count: &mut u64, follows: &mut u64) -> u64
-    ensures { λ n. ⌜ ((n at now (value .exit)) ≡ ofPaged paged) × (now (count .exit) ≡ pageRecordsOf paged) × (now (follows .exit) ≡ followsOf paged) ⌝ }
+    ensures { λ n. ⌜ (n at now (value .exit), now (count .exit), now (follows .exit)) ≡ ofPaged paged ⌝ }
 {
     match paged {
         Paged::Given {

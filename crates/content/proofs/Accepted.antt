@@ -18,7 +18,7 @@ use Rattle.held.specs.Order.{Level, Filter}
 use Rattle.held.specs.Edit.{HashLast}
 use Rattle.held.specs.History.{accepted}
 use Rattle.held.proofs.Texts.{Kept, kept, some-levels}
-use Rattle.held.proofs.Orders.{and-left, and-right}
+use Rattle.held.proofs.Orders.{and-left, and-right, and-both}
 use Rattle.region.specs.Store.{Accepts}
 use Rattle.region.specs.declared.Kind.{Kind}
 use Rattle.region.specs.declared.Kind.the-variants.{Subscriptions, Retained}
@@ -61,15 +61,12 @@ pub record LevelsFine (k : Kind) (d room : ℕ) (f : Filter) : Type 0 where
   pub few : length f + d ≤ 129
   pub narrow : width f ≤ room
 
-both : (a b : Bool) → a ≡ true → b ≡ true → (a && b) ≡ true
-both a b p q = rw (p, q)
-
 pub text-levels : (k : Kind) (d room : ℕ) (f : Filter) → d ≤ 129 → TextFine k d room f → LevelsFine k d room f
 text-levels k d room [] h t = record { levels = refl; few = omega arith; narrow = omega arith }
 text-levels k d room (l ∷ f) h t =
     let r : LevelsFine k (d + 1) (room - (length l + 1)) f = text-levels k (d + 1) (room - (length l + 1)) f (omega (arith, t .0)) (t .3) in
     record {
-      levels = both (levelFine k l) (all (levelFine k) f) (t .1) (r .levels);
+      levels = and-both (levelFine k l) (all (levelFine k) f) (t .1) (r .levels);
       few = omega (arith, r .few);
       narrow = omega (arith, r .narrow, t .2);
     }
@@ -85,9 +82,6 @@ levels-text k d room (l ∷ f) r = (
 )
 
 -- what the tests of a text say of its levels
-not-not : (t : Bool) → t ≡ false → not t ≡ true
-not-not t e = ap not e
-
 module _ (l : Level) (f : Filter) where
   length-narrow : ltb 65535 (length (join (l ∷ f))) ≡ false → width (l ∷ f) ≤ 65536
   length-narrow e = omega (arith, join-length l f, ltb-false 65535 (length (join (l ∷ f))) e)
@@ -100,7 +94,7 @@ module _ (l : Level) (f : Filter) where
   text-fine k c u z w =
       let a : all isUtf8 (l ∷ f) ≡ true = sym (join-utf8 l f) ∙ not-false (isUtf8 (join (l ∷ f))) u in
       let b : all (λ l. not (has 0 l)) (l ∷ f) ≡ true = sym (join-nul l f) ∙ ap not z in
-      fine-all k (l ∷ f) ∙ both _ _ a (both _ _ b (both _ _ (clean-all (l ∷ f) c) w))
+      fine-all k (l ∷ f) ∙ and-both _ _ a (and-both _ _ b (and-both _ _ (clean-all (l ∷ f) c) w))
 
   -- the first rules of a text, from its levels
   blank-join : (l ∷ f ≡ [] ∷ [] → ⊥) → blank (join (l ∷ f)) ≡ false

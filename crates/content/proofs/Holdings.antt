@@ -1,7 +1,7 @@
 -- What the tests of the units that a node holds say: they are written as what is read from them, and that is in order. Assumes nothing.
 use mathlib.Core.Path.{_≡_, refl, sym, ap, _∙_}
 use Prim.Native.Nat.{ℕ, zero, suc, _+_, _*_, _≤_}
-use mathlib.Core.Bool.{Bool, true, false, _&&_, _||_, true≢false}
+use mathlib.Core.Bool.{Bool, true, false, _&&_, _||_, true≢false, or-true}
 use mathlib.Core.Logic.{_⊎_, inl, inr, ⊎-elim}
 use mathlib.Core.List.{List, [], _∷_, _++_, append-nil}
 use mathlib.Core.Option.{Option, none, some}
@@ -10,13 +10,13 @@ use lib.Dec.{eqb, ltb}
 use lib.ListN.{length, take, drop, getD, replicate, length-drop}
 use lib.Seq.{take-at, drop-at, length-take-le, take-take, take-add, getD-take, getD-drop}
 use borrow.Author.Tests.{eqb-true, eq-eqb}
-use Rattle.lent.specs.Numbers.{be, bytes}
+use Rattle.lent.specs.Numbers.{be, bytes, AreBytes}
 use Rattle.lent.specs.Parts.{part}
 use Rattle.lent.proofs.Parts.{part-add, part-eq, part-part}
 use Rattle.held.specs.Ascending.{Below}
 use Rattle.held.specs.Bytes.{each}
 use Rattle.held.specs.Retained.{Stored}
-use Rattle.held.specs.Edit.{AscValues, Single}
+use Rattle.held.specs.Forest.{AscValues, Single}
 use Rattle.held.proofs.Orders.{and-left, and-right, byte-order}
 use Rattle.held.proofs.Stores.{below-mono}
 use Rattle.region.specs.Units.{valueBytes, valueOf, momentBytes, storedBytes, storedOf}
@@ -26,7 +26,7 @@ use Rattle.region.specs.declared.Kind.{Kind}
 use Rattle.region.specs.declared.Kind.the-variants.{Subscriptions, Retained}
 use Rattle.region.proofs.Instances.{values, records}
 use Rattle.content.specs.Contents.{upward, valuesFine, recordsFine, ownFine}
-use Rattle.content.proofs.PartLaws.{AreBytes, are-drop, bytes-part, part-number}
+use Rattle.content.proofs.PartLaws.{are-drop, bytes-part, part-number}
 
 -- what the nodes of a kind of store hold, when it is in order, and that the test of its units tells
 pub record Holding (X : Type 0) (k : Kind) : Type 1 where
@@ -167,13 +167,6 @@ stored-marks : (s : Stored) → (be (part 4 4 (storedBytes s)) ≡ 0x1000000) �
 unfolding storedBytes
 stored-marks s = moment-of (s .handle) (s .moment)
 
-or-left : (a b : Bool) → a ≡ true → (a || b) ≡ true
-or-left a b e = rw e
-
-or-right : (a b : Bool) → b ≡ true → (a || b) ≡ true
-or-right true b e = refl
-or-right false b e = e
-
 or-cases : (a b : Bool) → (a || b) ≡ true → (a ≡ true) ⊎ (b ≡ true)
 or-cases true b e = inl refl
 or-cases false b e = inr e
@@ -200,8 +193,10 @@ records-no (suc zero) w h e a =
     let f : be (part 4 4 w) ≡ be (part 4 4 (storedBytes (storedOf (take 16 w)))) = ap be (sym (unit-part w h 4 4 (omega arith)) ∙ ap (part 4 4) (sym q)) in
     let g : be (part 8 8 w) ≡ be (part 8 8 (storedBytes (storedOf (take 16 w)))) = ap be (sym (unit-part w h 8 8 (omega arith)) ∙ ap (part 8 8) (sym q)) in
     ⊎-elim
-    (λ p. or-left (eqb (be (part 4 4 w)) 0x1000000) (nought w) (eq-eqb (be (part 4 4 w)) 0x1000000 (f ∙ p)))
-    (λ p. or-right (eqb (be (part 4 4 w)) 0x1000000) (nought w) (rw (eq-eqb (be (part 4 4 w)) 0 (f ∙ p .0)) (eq-eqb (be (part 8 8 w)) 0 (g ∙ p .1))))
+    (λ p. rw (eq-eqb (be (part 4 4 w)) 0x1000000 (f ∙ p)))
+    (λ p.
+    let z : nought w ≡ true = rw (eq-eqb (be (part 4 4 w)) 0 (f ∙ p .0)) (eq-eqb (be (part 8 8 w)) 0 (g ∙ p .1)) in
+    rw z (or-true (eqb (be (part 4 4 w)) 0x1000000)))
     (stored-marks (storedOf (take 16 w)))
 records-no (suc (suc m)) w h e a = absurd a
 

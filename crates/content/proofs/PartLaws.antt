@@ -9,7 +9,7 @@ use lib.Dec.{eqb}
 use lib.ListN.{length, take, drop, getD, replicate, length-take, List·getD-eq-default}
 use lib.Seq.{take-at, drop-at, getD-take, getD-drop, take-take}
 use borrow.Author.Tests.{eqb-true, eq-eqb}
-use Rattle.lent.specs.Numbers.{be, bytes}
+use Rattle.lent.specs.Numbers.{be, bytes, AreBytes}
 use Rattle.lent.specs.Parts.{part}
 use Rattle.lent.proofs.Parts.{part-add, part-eq, take-part, drop-part, take-drop, length-part}
 use Rattle.lent.proofs.Digits.{bytes-be}
@@ -17,10 +17,6 @@ use Rattle.lent.proofs.Anywhere.{lt-or-ge}
 use Rattle.held.proofs.Orders.{and-left, and-right}
 use Rattle.region.specs.Decode.{unitsTo}
 use Rattle.content.specs.Contents.{every}
-
--- a list of bytes
-abbrev pub AreBytes : List ℕ → Type 0
-AreBytes s = (i : ℕ) → getD s i 0 < 256
 
 pub are-drop : (p : ℕ) (s : List ℕ) → AreBytes s → AreBytes (drop p s)
 are-drop p s o i = rw (getD-drop p s i 0) (o (p + i))

@@ -13,7 +13,6 @@ use borrow.Author.Tests.{eq-eqb, ne-eqb, not-false, not-true}
 use Rattle.lent.specs.Numbers.{be}
 use Rattle.lent.specs.Parts.{part}
 use Rattle.lent.specs.Total.{read}
-use Rattle.lent.proofs.Parts.{part-eq, part-part, length-part}
 use Rattle.lent.proofs.Anywhere.{read-in, from-part}
 use Rattle.content.specs.Contents.{every, upward, valuesFine, recordsFine}
 

@@ -1,8 +1,8 @@
 -- The tests before anything is added. Assumes nothing.
-use mathlib.Core.Path.{_≡_, refl, sym, ap, _∙_}
+use mathlib.Core.Path.{_≡_, sym, ap, _∙_}
 use mathlib.Core.Bool.{false}
 use mathlib.Core.List.{List, [], _∷_}
-use Prim.Native.Nat.{ℕ, zero, suc, _+_, _-_, _*_, _≤_, _<_}
+use Prim.Native.Nat.{ℕ, zero, suc, _+_, _-_, _≤_, _<_}
 use native.Mathlib.Omega.{arith}
 use lib.ListN.{length, take, getD}
 use Rattle.refusal.specs.declared.Refusal.{Refusal}
@@ -18,7 +18,6 @@ use Rattle.region.specs.Shapes.{CapacitiesOf, UnitsOf}
 use Rattle.level.specs.Levels.{split}
 use Rattle.level.specs.Places.{levelsAt}
 use Rattle.level.proofs.Split.{split-cons, levels-none}
-use Rattle.held.specs.Order.{Filter}
 use Rattle.held.specs.Ascending.{All}
 use Rattle.seek.specs.declared.Path.{Path}
 use Rattle.seek.specs.PathFound.{PathFound}

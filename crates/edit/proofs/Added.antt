@@ -1,6 +1,6 @@
 -- What is held once a unit was added to a node, or nodes with one: the change that the code makes, in the words of the forest.
 -- Assumes nothing.
-use mathlib.Core.Path.{_≡_, refl, sym, ap, subst, _∙_}
+use mathlib.Core.Path.{_≡_, sym, ap, subst, _∙_}
 use mathlib.Core.Bool.{Bool, true, false}
 use mathlib.Core.List.{List, [], _∷_, _++_}
 use Prim.Native.Nat.{ℕ, zero, suc, _+_, _-_, _≤_, _<_}
@@ -14,8 +14,8 @@ use Rattle.level.proofs.Split.{split-cons, after}
 use Rattle.held.specs.Order.{Level, Filter}
 use Rattle.held.specs.Ascending.{All}
 use Rattle.held.specs.Room.{levelCells}
-use Rattle.held.specs.Forest.{Forest, held}
-use Rattle.held.specs.Edit.{growF, missing, weigh, Full}
+use Rattle.held.specs.Forest.{Forest, held, Full}
+use Rattle.held.specs.Edit.{growF, missing, weigh}
 use Rattle.held.proofs.Entries.{all-with}
 use Rattle.held.proofs.RoomLaws.{Within}
 use Rattle.region.specs.Layout.{unitRoom, levelUnits, unitsF}
@@ -31,7 +31,7 @@ use Rattle.room.specs.declared.Load.{Load}
 use Rattle.room.specs.Runs.{WantedFor}
 use Rattle.room.specs.Changes.{madeUnit, madeChain}
 use Rattle.change.specs.Holds.{Holds}
-use Rattle.change.specs.Ways.{ahead, downs}
+use Rattle.change.specs.Ways.{ahead}
 use Rattle.change.specs.Reach.{Reach}
 use Rattle.change.proofs.ReachLaws.{Reached, reach, reach-missing}
 use Rattle.change.proofs.EditLaws.{Becomes, Short}
@@ -39,7 +39,7 @@ use Rattle.change.proofs.PathEdits.{unit-reached, unit-units, chain-reached, ch
 use Rattle.change.proofs.SwapLaws.{swap-reached}
 use Rattle.edit.specs.Adding.{fitting}
 use Rattle.edit.proofs.LastLaws.{Last}
-use Rattle.edit.proofs.KnownPath.{base-is, all-is, stands, path, last, node-is, downs-are}
+use Rattle.edit.proofs.KnownPath.{base-is, all-is, stands, path, last, downs-are}
 
 -- no level is longer than its text
 UpTo : ℕ → List (List ℕ) → Type 0

@@ -1,6 +1,6 @@
 -- A region that holds a forest, and the path of a text in it: what the calls that change a store know. Assumes nothing.
-use mathlib.Core.Path.{_≡_, refl, sym, ap, subst, _∙_}
-use mathlib.Core.Bool.{Bool, true, false}
+use mathlib.Core.Path.{_≡_, sym, subst, _∙_}
+use mathlib.Core.Bool.{false}
 use mathlib.Core.List.{List, [], _∷_, _++_}
 use Prim.Native.Nat.{ℕ, suc, _+_, _-_, _≤_, _<_}
 use native.Mathlib.Omega.{arith}
@@ -16,8 +16,9 @@ use Rattle.topic.specs.Answers.{checked}
 use Rattle.topic.specs.declared.Checked.the-variants.{Refused as NotAccepted}
 use Rattle.held.specs.Order.{Filter}
 use Rattle.held.specs.Room.{levelCells, fullRules, depthRule}
-use Rattle.held.specs.Forest.{Forest, hit, held, valuesAt}
-use Rattle.held.specs.Edit.{sizeF, cellsF, weigh, missing}
+use Rattle.held.specs.Forest.{Forest, held}
+use Rattle.held.specs.Walks.{hit, valuesAt}
+use Rattle.held.specs.Edit.{sizeF, cellsF, weigh}
 use Rattle.held.proofs.Counts.{node-count, cell-count}
 use Rattle.region.specs.Layout.{unitRoom, unitsF}
 use Rattle.region.specs.Forms.{Form}
@@ -26,7 +27,6 @@ use Rattle.region.specs.declared.Shape.{Shape}
 use Rattle.region.specs.declared.Shape.the-variants.{Units, Not}
 use Rattle.region.specs.Shapes.{NoUnits, UnitsOf, ShapeOf}
 use Rattle.region.proofs.CountLaws.{nodes-kept, pairs-kept, cells-kept}
-use Rattle.forest.specs.Places.{unitAt}
 use Rattle.forest.specs.Stands.{Stands}
 use Rattle.seek.specs.declared.Path.{Path}
 use Rattle.seek.specs.PathFound.{PathFound, PathOf}
@@ -34,7 +34,7 @@ use Rattle.seek.proofs.Raw.{written-stands}
 use Rattle.seek.proofs.PathLaws.{path-of, all-there}
 use Rattle.change.specs.Holds.{Holds}
 use Rattle.change.specs.Ways.{ahead, downs}
-use Rattle.change.proofs.ReachLaws.{Reached, reach, reach-missing}
+use Rattle.change.proofs.ReachLaws.{reach, reach-missing}
 use Rattle.change.proofs.ChainLaws.{weigh-one}
 use Rattle.change.proofs.HoldsLaws.{units-within}
 use Rattle.change.proofs.StoreLaws.{used-is}

@@ -1,32 +1,33 @@
 -- The last node of a path that is there in a store: where the code finds it, and what it reads there. Assumes nothing.
-use mathlib.Core.Path.{_≡_, refl, sym, ap, subst, _∙_}
-use mathlib.Core.Bool.{Bool, true, false}
-use mathlib.Core.List.{List, [], _∷_, _++_, append-assoc, append-nil}
-use Prim.Native.Nat.{ℕ, zero, suc, _+_, _-_, _*_, _/_, _^_, _≤_, _<_, min}
+use mathlib.Core.Path.{_≡_, refl, sym, ap, _∙_}
+use mathlib.Core.Bool.{true}
+use mathlib.Core.List.{List, [], _∷_, _++_}
+use Prim.Native.Nat.{ℕ, zero, suc, _+_, _-_, _*_, _≤_}
 use native.Mathlib.Omega.{arith}
-use native.Mathlib.Nat.{add-zero, zero-add}
-use lib.ListN.{length, take, drop, getD, length-append, length-take}
-use lib.Seq.{take-at, drop-at, take-take, getD-take}
+use native.Mathlib.Nat.{zero-add}
+use lib.ListN.{length, take, getD, length-append, length-take}
+use lib.Seq.{take-at, take-take, getD-take}
 use Rattle.lent.specs.Parts.{part}
 use Rattle.held.specs.Order.{Level, Filter, levelLt}
 use Rattle.held.specs.Ascending.{All}
 use Rattle.held.specs.Bytes.{each}
-use Rattle.held.specs.Forest.{Forest, leaf, fork, Hit, miss, hit, kid, valuesAt, Rows}
-use Rattle.held.specs.Edit.{Owns}
+use Rattle.held.specs.Forest.{Forest, fork, Owns}
+use Rattle.held.specs.Walks.{hit, kid, valuesAt}
 use Rattle.held.proofs.Orders.{level-order, eq-higher}
 use Rattle.held.proofs.Equations.{kid-here, kid-next}
-use Rattle.region.specs.Layout.{levelUnits, rowUnits, unitsF}
+use Rattle.region.specs.Layout.{levelUnits, unitsF}
 use Rattle.region.specs.Forms.{Form}
 use Rattle.forest.specs.Places.{unitAt, ownAt, levelUnitsAt, rowEnd, kidsEnd}
 use Rattle.forest.specs.Stands.{Stands}
 use Rattle.forest.specs.Paths.{nodesAt}
-use Rattle.forest.proofs.StandsLaws.{fork-units, ForkFits, fits-fork, stands-len, stands-own, stands-end, stands-past}
+use Rattle.forest.proofs.StandsLaws.{fork-units, fits-fork, stands-len, stands-own, stands-end, stands-past}
 use Rattle.seek.proofs.Holds.{stands-holds}
 use Rattle.change.specs.Ways.{past, down, Way, plug, ahead, downs, deep}
 use Rattle.change.specs.Reach.{Reach, ended, before, there, pass, into}
 use Rattle.change.proofs.ReachLaws.{no-cons, reach-plug, reach-nodes}
 use Rattle.change.proofs.FoundLaws.{stands-at}
 use Rattle.change.proofs.WayLaws.{units-plug, wide-ahead}
+use Rattle.seek.proofs.PathNodes.{values-end, values-hit}
 
 -- the last node of a path, and the way to it
 pub record Last {X : Type 0} (F : Forest X) (p : Filter) : Type 0 where
@@ -51,14 +52,6 @@ module _ {X : Type 0} where
   reach-last (pass {v = v} {k = k} {n = n} q r) e = last-pass v k n q (reach-last r e)
   reach-last (into {g = g} {h = h} {hs = hs} {v = v} {k = k} {n = n} r) e = last-into g h hs v k n (reach-last r e)
 
-  values-on : (g : Level) (gs : Filter) (v o : List X) (k F : Forest X) → kid g F ≡ hit v k → valuesAt (g ∷ gs) (hit o F) ≡ valuesAt gs (hit v k)
-  unfolding valuesAt
-  values-on g gs v o k F e = ap (valuesAt gs) e
-
-  values-end : (v : List X) (k : Forest X) → valuesAt [] (hit v k) ≡ v
-  unfolding valuesAt
-  values-end v k = refl
-
   values-along : (g : Level) (gs : Filter) (o q : List X) (F G : Forest X) → kid g F ≡ kid g G → valuesAt (g ∷ gs) (hit o F) ≡ valuesAt (g ∷ gs) (hit q G)
   unfolding valuesAt
   values-along g gs o q F G e = ap (valuesAt gs) e
@@ -68,14 +61,14 @@ module _ {X : Type 0} where
   last-values o (ended {g = g} {gs = gs}) e z = absurd (no-cons g gs (sym z))
   last-values o (before {g = g} {gs = gs} q) e z = absurd (no-cons g gs (sym z))
   last-values o (there {g = g} {v = v} {k = k} {n = n}) e z =
-      values-on g [] v o k (fork g v k n) (kid-here g g v k n (level-order .eq-refl g)) ∙ values-end v k ∙ own-same e
+      values-hit g [] o v (fork g v k n) k (kid-here g g v k n (level-order .eq-refl g)) ∙ values-end v k ∙ own-same e
     where
       own-same : {a b : Level} {v w : List X} {k l m n : Forest X} → fork a v k m ≡ fork b w l n → v ≡ w
       own-same e = cc
   last-values o (pass {g = g} {t = t} {gs = gs} {v = v} {k = k} {n = n} q r) e z =
       values-along g gs o o (fork t v k n) n (kid-next g t v k n (eq-higher level-order g t q)) ∙ last-values o r e z
   last-values o (into {g = g} {h = h} {hs = hs} {v = v} {k = k} {n = n} r) e z =
-      values-on g (h ∷ hs) v o k (fork g v k n) (kid-here g g v k n (level-order .eq-refl g)) ∙ last-values v r e z
+      values-hit g (h ∷ hs) o v (fork g v k n) k (kid-here g g v k n (level-order .eq-refl g)) ∙ last-values v r e z
 
 -- what the node at a place holds is as what every node holds
 owns-at : {X : Type 0} (P : List X → Type 0) (w : Way X) (t : Level) (v : List X) (k n : Forest X) → Owns P (plug w (fork t v k n)) → P v

@@ -9,3 +9,4 @@ pub mod Added
 pub mod Taken
 pub mod CountLaws
 pub mod GiveLaws
+pub mod Settled

@@ -2,9 +2,8 @@
 -- nothing.
 use mathlib.Core.Path.{_≡_, refl, sym, ap, _∙_}
 use mathlib.Core.Bool.{cond}
-use mathlib.Core.List.{List, _++_}
+use mathlib.Core.List.{List}
 use Prim.Native.Nat.{ℕ}
-use lib.ListN.{length, drop}
 use Rattle.refusal.specs.declared.Refusal.{Refusal}
 use Rattle.topic.specs.Rules.{Rule}
 use Rattle.topic.specs.Answers.{checked}

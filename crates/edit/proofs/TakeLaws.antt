@@ -1,11 +1,11 @@
 -- The tests before anything is taken away. Assumes nothing.
-use mathlib.Core.Path.{_≡_, refl, sym, ap, _∙_}
+use mathlib.Core.Path.{_≡_, ap, _∙_}
 use mathlib.Core.Bool.{false}
 use mathlib.Core.List.{List, [], _∷_}
-use Prim.Native.Nat.{ℕ, _+_, _-_, _≤_, _<_}
+use Prim.Native.Nat.{ℕ, _-_, _≤_, _<_}
 use native.Mathlib.Omega.{arith}
 use lib.Dec.{eqb}
-use lib.ListN.{length, take, getD}
+use lib.ListN.{take, getD}
 use borrow.Author.Tests.{eq-eqb, ne-eqb}
 use Rattle.refusal.specs.declared.Refusal.the-variants.{NotAStore}
 use Rattle.level.specs.Levels.{startOf}
@@ -18,7 +18,7 @@ use Rattle.room.specs.Runs.{runUnits, WantedFor}
 use Rattle.room.specs.Changes.{Under, takenChain, takenUnit}
 use Rattle.room.specs.Stay.{staying}
 use Rattle.edit.specs.declared.Changed.the-variants.{Done, Refused}
-use Rattle.edit.specs.Taking.{aloneIn, Taken, no-units, taken, PathTaken, OneLess}
+use Rattle.edit.specs.Taking.{aloneIn, no-units, taken, PathTaken, OneLess}
 use Rattle.edit.proofs.AddLaws.{under-take}
 
 run-some : (gs : Filter) → 1 ≤ runUnits gs

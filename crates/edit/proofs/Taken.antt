@@ -1,7 +1,7 @@
 -- What is held once a unit was taken from a node, or the nodes that go with it: the change that the code makes, in the words of the
 -- forest. Assumes nothing.
-use mathlib.Core.Path.{_≡_, refl, sym, ap, subst, _∙_}
-use mathlib.Core.Bool.{Bool, true, false, _&&_, true≢false}
+use mathlib.Core.Path.{_≡_, sym, ap, subst, _∙_}
+use mathlib.Core.Bool.{true, false, _&&_, true≢false}
 use mathlib.Core.List.{List, [], _∷_, _++_}
 use Prim.Native.Nat.{ℕ, _+_, _-_, _≤_, _<_}
 use native.Mathlib.Omega.{arith}
@@ -12,21 +12,20 @@ use lib.Seq.{take-take, getD-take}
 use borrow.Author.Tests.{eq-eqb, eqb-true}
 use Rattle.level.specs.Levels.{split, startOf}
 use Rattle.level.specs.Places.{levelsAt}
-use Rattle.level.proofs.Split.{Began, began}
+use Rattle.level.proofs.Split.{began}
 use Rattle.held.specs.Order.{Level, Filter}
 use Rattle.held.specs.Room.{levelCells}
-use Rattle.held.specs.Forest.{Forest, leaf, fork, held, Rows}
-use Rattle.held.specs.Edit.{cutF, Full}
+use Rattle.held.specs.Forest.{Forest, leaf, fork, held, Full}
+use Rattle.held.specs.Edit.{cutF}
 use Rattle.held.proofs.Orders.{and-left, and-right}
 use Rattle.held.proofs.Weights.{weigh-cut}
 use Rattle.held.proofs.Counts.{node-count, cell-count}
 use Rattle.held.proofs.Edits.{rows-cut}
 use Rattle.held.proofs.RoomLaws.{Within}
-use Rattle.region.specs.Layout.{unitRoom, levelUnits, unitsF}
+use Rattle.region.specs.Layout.{levelUnits, unitsF}
 use Rattle.region.specs.Forms.{Form}
 use Rattle.region.specs.Store.{roomAt}
 use Rattle.region.specs.Shapes.{UnitsOf}
-use Rattle.forest.proofs.StandsLaws.{fork-units}
 use Rattle.seek.specs.declared.Path.{Path}
 use Rattle.seek.specs.PathFound.{PathFound}
 use Rattle.room.specs.declared.Load.{Load}

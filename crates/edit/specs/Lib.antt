@@ -4,3 +4,4 @@ pub mod Adding
 pub mod Taking
 pub mod Counts
 pub mod Given
+pub mod Same

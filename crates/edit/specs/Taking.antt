@@ -1,5 +1,4 @@
 -- FOR THE CODE. What taking away from a region answers and leaves, by its tests. Assumes nothing.
-use mathlib.Core.Path.{_≡_}
 use Prim.Native.Nat.{ℕ, _+_, _≤_, _<_}
 use mathlib.Core.Bool.{Bool, _&&_}
 use mathlib.Core.List.{List}

@@ -1,15 +1,15 @@
 -- The forest in some units, by its first row: the two equations behind which the decoder hides. Assumes nothing.
 use mathlib.Core.Path.{_≡_, refl, sym, ap, _∙_}
 use mathlib.Core.List.{List, []}
-use Prim.Native.Nat.{ℕ, suc, _+_, _-_, _*_, _/_, _≤_, _<_, min}
+use Prim.Native.Nat.{ℕ, _+_, _-_, _*_, _≤_, _<_, min}
 use native.Mathlib.Omega.{arith}
 use lib.ListN.{length, take, drop}
 use native.Mathlib.Nat.{add-zero}
 use Rattle.lent.specs.Numbers.{be}
 use Rattle.lent.specs.Parts.{part}
 use Rattle.lent.proofs.Parts.{part-eq, part-part, part-same, drop-part, take-part, length-part}
-use Rattle.held.specs.Forest.{Forest, leaf, fork}
-use Rattle.region.specs.Decode.{unitsTo, decodeTo, decode}
+use Rattle.held.specs.Forest.{leaf, fork}
+use Rattle.region.specs.Decode.{unitsTo, decode}
 use Rattle.region.proofs.Decoded.{decode-none, decode-step}
 use Rattle.forest.specs.Places.{unitAt, forestIn, lenAt, ownAt, belowAt, levelUnitsAt, rowEnd, kidsEnd, levelIn, ownIn}
 

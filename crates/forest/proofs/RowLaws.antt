@@ -1,16 +1,13 @@
 -- A row as the code reads it. Assumes nothing.
-use mathlib.Core.Path.{_≡_, refl, sym, ap, _∙_}
+use mathlib.Core.Path.{_≡_, refl, sym, _∙_}
 use mathlib.Core.List.{List}
 use Prim.Native.Nat.{ℕ, _+_, _-_, _*_, _/_, _≤_, _<_, min}
 use native.Mathlib.Omega.{arith}
 use native.Mathlib.Nat.{add-zero}
 use lib.ListN.{length, take, drop}
-use Rattle.lent.specs.Numbers.{be}
-use Rattle.lent.specs.Parts.{part}
 use Rattle.lent.specs.Total.{read}
 use Rattle.lent.proofs.Parts.{part-eq}
 use Rattle.lent.proofs.Anywhere.{read-in, from-part}
-use Rattle.forest.specs.declared.Row.{Row}
 use Rattle.forest.specs.Places.{unitAt, lenAt, ownAt, belowAt, rowEnd, kidsEnd, levelIn, RowAt}
 
 module _ (base i n : ℕ) (s : List ℕ) (some : i < n) (within : unitAt base n ≤ length s) where

@@ -1,22 +1,21 @@
 -- A forest that stands in a region: what is read there, and that its children and the rest of its row stand too. Assumes nothing.
-use mathlib.Core.Path.{_≡_, refl, sym, ap, subst, _∙_}
+use mathlib.Core.Path.{_≡_, refl, sym, ap, _∙_}
 use mathlib.Core.List.{List, [], _∷_, _++_, append-assoc, append-nil}
 use Prim.Native.Nat.{ℕ, _+_, _-_, _*_, _≤_, _<_, min}
 use native.Mathlib.Omega.{arith}
 use native.Mathlib.Nat.{add-zero}
-use lib.ListN.{length, take, drop, replicate, getD, length-append, length-replicate}
+use lib.ListN.{length, take, replicate, length-append, length-replicate}
 use lib.Seq.{take-at, drop-at}
 use Rattle.lent.specs.Numbers.{be}
 use Rattle.lent.specs.Parts.{part}
-use Rattle.lent.proofs.Parts.{part-eq, part-part, part-same}
+use Rattle.lent.proofs.Parts.{part-part}
 use Rattle.held.specs.Order.{Level}
 use Rattle.held.specs.Ascending.{All}
-use Rattle.held.specs.Forest.{Forest, leaf, fork, Over, Rows}
-use Rattle.region.specs.Layout.{levelUnits, rowUnits, unitsF, rowBytes, unitBytes, marksOf}
-use Rattle.region.specs.Forms.{Form, Fits, leaf-fits, fork-fits}
-use Rattle.region.specs.Decode.{lenOf, ownOf, belowOf, unitsTo, decode}
+use Rattle.held.specs.Forest.{Forest, leaf, fork}
+use Rattle.region.specs.Layout.{rowUnits, unitsF, rowBytes, unitBytes, marksOf}
+use Rattle.region.specs.Forms.{Form, Fits, fork-fits}
 use Rattle.region.proofs.Decoded.{length-row, length-units, row-len, row-own, row-below, row-level, decode-units}
-use Rattle.forest.specs.Places.{unitAt, forestIn, lenAt, ownAt, belowAt, levelUnitsAt, rowEnd, kidsEnd, levelIn}
+use Rattle.forest.specs.Places.{unitAt, forestIn, lenAt, ownAt, belowAt, rowEnd, kidsEnd, levelIn}
 use Rattle.forest.specs.Stands.{Stands}
 
 pub fork-units : {X : Type 0} (t : Level) (v : List X) (k n : Forest X) → unitsF (fork t v k n) ≡ rowUnits t v + (unitsF k + unitsF n)
@@ -103,12 +102,6 @@ module _ {X : Type 0} (u : Form X) (base : ℕ) (s : List ℕ) (d : ℕ) where
     mark-shape : part (64 + lo) (unitsF (fork t v k n)) s ≡ d ∷ (replicate (rowUnits t v - 1) 255 ++ (marksOf (d + 1) k ++ marksOf d n))
     unfolding marksOf
     mark-shape = w .marks
-
-    pub stands-mark : part (64 + lo) 1 s ≡ d ∷ []
-    unfolding part
-    stands-mark =
-        rw add-zero at (sym (part-part 0 1 (64 + lo) (unitsF (fork t v k n)) s (omega (arith, some, fork-units t v k n))))
-        ∙ ap (part 0 1) mark-shape
 
     -- the children stand one deeper
     abbrev front : List ℕ

@@ -3,7 +3,8 @@ use Prim.Native.Nat.{ℕ, _+_}
 use mathlib.Core.Bool.{cond}
 use mathlib.Core.List.{List, [], _∷_}
 use Rattle.held.specs.Order.{Level, Filter, levelLt}
-use Rattle.held.specs.Forest.{Forest, leaf, fork, Hit, miss, hit, kid}
+use Rattle.held.specs.Forest.{Forest, leaf, fork}
+use Rattle.held.specs.Walks.{Hit, miss, hit, kid}
 use Rattle.region.specs.Layout.{rowUnits, unitsF}
 
 -- the first node of a row that does not come before the level g: where it stands, or where the row ends

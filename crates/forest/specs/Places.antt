@@ -2,7 +2,6 @@
 use mathlib.Core.Path.{_≡_}
 use Prim.Native.Nat.{ℕ, _+_, _-_, _*_, _<_, _≤_, min}
 use mathlib.Core.List.{List}
-use lib.ListN.{length}
 use Rattle.lent.specs.Numbers.{be}
 use Rattle.lent.specs.Parts.{part}
 use Rattle.held.specs.Forest.{Forest}

@@ -2,7 +2,7 @@
 -- on. The raw forest is the one whose nodes hold units as they stand, whatever the kind of store. Assumes nothing.
 use mathlib.Core.Path.{_≡_}
 use Prim.Native.Nat.{ℕ, _+_, _*_}
-use mathlib.Core.List.{List, [], _∷_, map}
+use mathlib.Core.List.{List, map}
 use Rattle.lent.specs.Parts.{part}
 use Rattle.held.specs.Forest.{Forest, leaf, fork, Rows}
 use Rattle.region.specs.Layout.{unitsF, unitBytes, marksOf}

@@ -23,11 +23,12 @@ use Rattle.held.specs.Subscriptions.{Pair, AscPairs, isHeld, insertHeld,
 use Rattle.held.specs.Retained.{Named, setHeld, eraseHeld, expired, unexpired, sweepHeld, Call as Change, set, sweep, retained, lookup, left, all, page}
 use Rattle.held.proofs.Orders.{and-left, and-right}
 use Rattle.held.proofs.Entries.{all-keep, all-put, all-sort, all-map, all-with, all-take, all-drop}
-use Rattle.held.proofs.Texts.{Written, filter-written, name-written}
+use Rattle.held.proofs.Texts.{filter-written, name-written}
 use Rattle.held.proofs.HeldLaws.{pairs-insert, pairs-remove}
 use Rattle.held.proofs.RoomLaws.{room-within}
 use Rattle.held.proofs.Histories.{run-keeps, all-calls}
 use Rattle.held.proofs.Lengths.{length-insert}
+use Rattle.held.specs.Sized.{SizedPair, SizedRecord, SizedName}
 
 pub length-keep : {E : Type 0} (q : E → Bool) (l : List E) → length (keep q l) ≤ length l
 length-keep q [] = omega arith
@@ -36,17 +37,6 @@ length-keep q (e ∷ l) = go (q e) (length-keep q l)
     go : (t : Bool) → length (keep q l) ≤ length l → length (cond t (e ∷ keep q l) (keep q l)) ≤ suc (length l)
     go true h = omega arith
     go false h = omega arith
-
--- a pair whose text and value fit their bytes
-pub record SizedPair (p : Pair) : Type 0 where
-  pub text : Written (p .0)
-  pub value : p .1 < 4294967296
-
--- a record whose text, number of values and values fit their bytes
-pub record SizedRecord (r : Filter × List ℕ) : Type 0 where
-  pub text : Written (r .0)
-  pub many : length (r .1) < 65536
-  pub values : All (λ v. v < 4294967296) (r .1)
 
 -- the records of a listing fit
 module _ (h : List Pair) (sized : All SizedPair h) (few : length h ≤ 8192) where
@@ -136,12 +126,6 @@ in-range r e =
 
 pub run-within : (r : Room) (cs : List Call) → inRange r ≡ true → length (run subscriptions r cs []) ≤ 8192
 run-within r cs i = omega (arith, run-few r cs, in-range r i .pairs .1)
-
--- a name's record whose text, handle and moment fit their bytes
-pub record SizedName (e : Named) : Type 0 where
-  pub text : Written (e .0)
-  pub small : e .1 .handle < 4294967296
-  pub time : (m : ℕ) → e .1 .moment ≡ some m → m < 18446744073709551616
 
 -- histories keep it, where handles are u32 and moments u64
 abbrev pub SmallChange : Change → Type 0

@@ -11,8 +11,8 @@ use Rattle.held.specs.Order.{Filter}
 use Rattle.held.specs.History.{accepted}
 use Rattle.held.specs.Subscriptions.{insertHeld, removeHeld, listing, isMatch, listingBytes}
 use Rattle.held.specs.Retained.{Stored, setHeld, eraseHeld}
-use Rattle.held.specs.Forest.{Forest, held}
-use Rattle.held.specs.Edit.{insertF, removeF, WellFormed, HashLast, WellNamed, setF, eraseF}
+use Rattle.held.specs.Forest.{Forest, held, WellFormed, WellNamed}
+use Rattle.held.specs.Edit.{insertF, removeF, HashLast, setF, eraseF}
 use Rattle.held.specs.Stream.{listBytes, listCount, listHit}
 use Rattle.held.proofs.Texts.{filter-hash, name-plain, some-levels}
 use Rattle.held.proofs.Matches.{match-is}

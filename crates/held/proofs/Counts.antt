@@ -9,8 +9,8 @@ use Rattle.level.specs.Kinds.{same}
 use Rattle.held.specs.Order.{Level, Filter, sameFilter, levelLt, filterLt}
 use Rattle.held.specs.Ascending.{member, Below, Asc}
 use Rattle.held.specs.Room.{leads, allLeads, nodesOf, nodeCount, levelCells, lastLevel, sumCells, cellCount}
-use Rattle.held.specs.Forest.{Forest, leaf, fork, under, held, Over, Rows}
-use Rattle.held.specs.Edit.{Full, paths, weighF, sizeF, cellsF}
+use Rattle.held.specs.Forest.{Forest, leaf, fork, under, held, Over, Rows, Full}
+use Rattle.held.specs.Edit.{paths, weighF, sizeF, cellsF}
 use Rattle.held.proofs.Orders.{lex-head, lex-tail, level-order, filter-order}
 use Rattle.held.proofs.Stores.{null, Before, below-append, asc-append}
 use Rattle.held.proofs.Sets.{member-sort, set-sort, set-ext}

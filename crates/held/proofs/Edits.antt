@@ -4,7 +4,8 @@ use mathlib.Core.Bool.{Bool, true, false, cond, _&&_}
 use mathlib.Core.List.{List, [], _∷_}
 use Rattle.level.specs.Kinds.{same}
 use Rattle.held.specs.Order.{Level, Filter, sameFilter, levelLt}
-use Rattle.held.specs.Forest.{Forest, leaf, fork, miss, hit, kid, valuesAt, Over, Rows}
+use Rattle.held.specs.Forest.{Forest, leaf, fork, Over, Rows}
+use Rattle.held.specs.Walks.{miss, hit, kid, valuesAt}
 use Rattle.held.specs.Edit.{editOwn, chain, growF, pruned, cutF}
 use Rattle.held.proofs.Orders.{Tri, lower, alike, higher, tri, eq-higher, same-sym, level-order}
 use Rattle.held.proofs.Walks.{at-miss, kid-over}

@@ -2,7 +2,7 @@
 use mathlib.Core.Path.{_≡_, refl}
 use Prim.Native.Nat.{ℕ, zero, suc}
 use mathlib.Core.Bool.{Bool, true, false, cond}
-use mathlib.Core.List.{List, [], _∷_, map}
+use mathlib.Core.List.{List, [], _∷_, map, _++_}
 use lib.ListN.{take, drop}
 use Rattle.held.specs.Ascending.{All, keep, put, sort}
 
@@ -36,6 +36,20 @@ module _ {E : Type 0} (P : E → Type 0) where
       go : (t : Bool) → q e ≡ t → All P (keep q l) → All P (cond t (e ∷ keep q l) (keep q l))
       go true p k = (f e p, k)
       go false p k = k
+
+-- of two lists, one after the other
+module _ {E : Type 0} (P : E → Type 0) where
+  pub all-append : (l m : List E) → All P l → All P m → All P (l ++ m)
+  all-append [] m a b = b
+  all-append (e ∷ l) m a b = (a .0, all-append l m (a .1) b)
+
+  pub all-before : (l m : List E) → All P (l ++ m) → All P l
+  all-before [] m a = tt
+  all-before (e ∷ l) m a = (a .0, all-before l m (a .1))
+
+  pub all-behind : (l m : List E) → All P (l ++ m) → All P m
+  all-behind [] m a = a
+  all-behind (e ∷ l) m a = all-behind l m (a .1)
 
 pub all-map : {D E : Type 0} (P : E → Type 0) (f : D → E) (l : List D) → All (λ d. P (f d)) l → All P (map f l)
 all-map P f [] a = tt

@@ -8,7 +8,8 @@ use Rattle.level.specs.Kinds.{same, dollar}
 use Rattle.topic.specs.Match.{takes}
 use Rattle.held.specs.Order.{Level, Filter, levelLt}
 use Rattle.held.specs.Retained.{Stored}
-use Rattle.held.specs.Forest.{Forest, leaf, fork, miss, hit, hash, plus, kid, Over, fits, onward}
+use Rattle.held.specs.Forest.{Forest, leaf, fork, Over}
+use Rattle.held.specs.Walks.{miss, hit, hash, plus, kid, fits, onward}
 use Rattle.held.specs.Edit.{editOwn, chain, growF, pruned, cutF}
 use Rattle.held.specs.Stream.{recordAt, hashBytes, walkBytes, ownCount, ownBytes, rowCount, rowBytes}
 use Rattle.held.proofs.Orders.{asym, level-order}

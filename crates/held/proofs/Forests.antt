@@ -8,8 +8,9 @@ use Rattle.level.specs.Kinds.{isOnly, same}
 use Rattle.held.specs.Order.{Level, Filter, sameFilter, levelLt, filterLt, samePair, pairLt}
 use Rattle.held.specs.Ascending.{member, keep, Below, Asc}
 use Rattle.held.specs.Subscriptions.{Pair, AscPairs, isHeld, insertHeld, removeHeld, valuesOf}
-use Rattle.held.specs.Forest.{Forest, leaf, fork, hit, under, held, kid, valuesAt, Over, Rows, HashEnds}
-use Rattle.held.specs.Edit.{editOwn, chain, growF, pruned, cutF, withValue, withoutValue, insertF, removeF, Owns, Full, AscValues, WellFormed, HashLast}
+use Rattle.held.specs.Forest.{Forest, leaf, fork, under, held, Over, Rows, HashEnds, Owns, Full, AscValues, WellFormed}
+use Rattle.held.specs.Walks.{hit, kid, valuesAt}
+use Rattle.held.specs.Edit.{editOwn, chain, growF, pruned, cutF, withValue, withoutValue, insertF, removeF, HashLast}
 use Rattle.held.proofs.Orders.{Order, Tri, lower, alike, higher, tri, same-sym, lex-head, lex-tail, byte-order, level-order, filter-order, pair-order}
 use Rattle.held.proofs.Stores.{Before, below-append, asc-append}
 use Rattle.held.proofs.Sets.{member-put, member-keep, set-put, set-keep}

@@ -14,6 +14,7 @@ use Rattle.held.specs.Order.{Filter, sameFilter, samePair}
 use Rattle.held.specs.Room.{Room}
 use Rattle.held.specs.History.{verdict, accepted, result, Kind, run, forRoom, hasRoom}
 use Rattle.held.specs.Subscriptions.{Pair, AscPairs, isHeld, insertHeld, removeHeld, Call, insert, remove, subscriptions, pairOf, callsOf, listingBytes}
+use Rattle.held.specs.Caught.{said, saidAll}
 use Rattle.held.specs.Retained.{Stored, Named, AscNames, hasFilter, setHeld, eraseHeld, unexpired, Call as Change, set, sweep, retained, about, callsOf as changesOf, lookupBytes, pageBytes}
 use Rattle.held.proofs.Orders.{and-left, and-right, same-sym, filter-order, pair-order}
 use Rattle.held.proofs.Stores.{passed}
@@ -45,21 +46,10 @@ room-first k r c cs h e = (
   and-right (not (forRoom (verdict (k r c h)))) (hasRoom k r cs (result (k r c h) h)) e,
 )
 
--- Subscriptions: what a call says of its pair
-abbrev pub textOf : Call → List ℕ
+-- Subscriptions: the text of a call
+abbrev textOf : Call → List ℕ
 textOf (insert s v) = s
 textOf (remove s v) = s
-
-abbrev pub says : Call → Bool
-says (insert s v) = true
-says (remove s v) = false
-
-abbrev pub said : Call → Bool → Bool
-said c b = cond (accepted (checked (filterRules (textOf c)))) (says c) b
-
-abbrev pub saidAll : List Call → Bool → Bool
-saidAll [] b = b
-saidAll (c ∷ cs) b = saidAll cs (said c b)
 
 insert-said : (p q : Pair) (h : List Pair) (a t : Bool) → samePair p q ≡ t → isHeld p (cond a (insertHeld q h) h) ≡ cond t (cond a true (isHeld p h)) (isHeld p h)
 insert-said p q h true true e = held-insert p q h ∙ rw e
@@ -98,6 +88,10 @@ text-of : (c : Call) → pairOf c .0 ≡ split (textOf c)
 text-of (insert s v) = refl
 text-of (remove s v) = refl
 
+unheard : (c : Call) (b : Bool) → accepted (checked (filterRules (textOf c))) ≡ false → said c b ≡ b
+unheard (insert s v) b e = rw e
+unheard (remove s v) b e = rw e
+
 unsaid : (p : Pair) → accepted (checked (filterRules (join (p .0)))) ≡ false → (cs : List Call) (b : Bool) → saidAll (callsOf p cs) b ≡ b
 unfolding callsOf
 unsaid p n [] b = refl
@@ -109,7 +103,7 @@ unsaid p n (c ∷ cs) b = go (samePair p (pairOf c)) refl (unsaid p n cs)
         let z : p ≡ pairOf c = pair-order .eq-true p (pairOf c) q in
         let j : join (p .0) ≡ textOf c = ap (λ (x : Pair). join (x .0)) z ∙ ap join (text-of c) ∙ join-split (textOf c) in
         let d : accepted (checked (filterRules (textOf c))) ≡ false = ap (λ (s : List ℕ). accepted (checked (filterRules s))) (sym j) ∙ n in
-        i (said c b) ∙ ap (λ (t : Bool). cond t (says c) b) d
+        i (said c b) ∙ unheard c b d
 
 pairs-after : (r : Room) (c : Call) (h : List Pair) → AscPairs h → AscPairs ((subscriptions r c h) .after)
 pairs-after r (insert s v) h a = pairs-insert (split s, v) h a

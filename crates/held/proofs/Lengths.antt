@@ -3,11 +3,12 @@ use mathlib.Core.Path.{_≡_, refl, sym, ap, _∙_}
 use Prim.Native.Nat.{ℕ, suc, _+_}
 use mathlib.Core.Bool.{Bool, true, false, not, cond, _||_}
 use mathlib.Core.List.{List, [], _∷_, map}
-use lib.ListN.{length}
+use lib.ListN.{length, length-append, length-map}
 use native.Mathlib.Omega.{arith}
-use Rattle.held.specs.Order.{Filter, samePair}
+use Rattle.held.specs.Order.{Level, Filter, samePair}
 use Rattle.held.specs.Ascending.{member, keep, Below, Asc, put}
 use Rattle.held.specs.Room.{Room}
+use Rattle.held.specs.Forest.{Forest, fork, held}
 use Rattle.held.specs.Subscriptions.{Pair, AscPairs, isHeld, insertHeld, removeHeld}
 use Rattle.held.specs.Retained.{Stored, Named, AscNames, hasFilter, setHeld, eraseHeld, unexpired, sweepHeld, sweep, retained}
 use Rattle.held.proofs.Orders.{Order, Tri, lower, alike, higher, tri, eq-lower, eq-higher, filter-order, pair-order}
@@ -101,3 +102,8 @@ length-parts q (e ∷ l) = go (q e) (length-parts q l)
 pub length-sweep : (r : Room) (now : ℕ) (h : List Named) → length h ≡ (retained r (sweep now) h) .answer + length (sweepHeld now h)
 unfolding sweepHeld
 length-sweep r now h = length-parts (λ e. unexpired now (e .1)) h
+
+-- what a forest holds, node by node
+pub length-held : {X : Type 0} (t : Level) (v : List X) (k n : Forest X) → length (held (fork t v k n)) ≡ length v + (length (held k) + length (held n))
+unfolding held
+length-held t v k n = rw (length-append, length-append, length-map, length-map)

@@ -8,6 +8,7 @@ pub mod Listing
 pub mod HeldLaws
 pub mod RoomLaws
 pub mod Histories
+pub mod CaughtLaws
 pub mod Lengths
 pub mod Walks
 pub mod Rule

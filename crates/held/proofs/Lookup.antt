@@ -8,7 +8,8 @@ use Rattle.topic.specs.Match.{levelTakes, takes, leadWild, leadDollar}
 use Rattle.held.specs.Order.{Level, Filter}
 use Rattle.held.specs.Ascending.{keep}
 use Rattle.held.specs.Retained.{Stored, unexpired, lookup}
-use Rattle.held.specs.Forest.{Forest, leaf, fork, under, held, fits, onward, look, lookF}
+use Rattle.held.specs.Forest.{Forest, leaf, fork, under, held}
+use Rattle.held.specs.Walks.{fits, onward, look, lookF}
 
 pub keep-append : {E : Type 0} (p : E → Bool) (l m : List E) → keep p (l ++ m) ≡ keep p l ++ keep p m
 keep-append p [] m = refl

@@ -7,8 +7,9 @@ use Rattle.topic.specs.Match.{leadDollar, match47}
 use Rattle.held.specs.Order.{Filter, listingLt}
 use Rattle.held.specs.Ascending.{any, keep, put, sort}
 use Rattle.held.specs.Subscriptions.{valuesOf, listing, isMatch}
-use Rattle.held.specs.Forest.{Forest, Hit, miss, hit, hash, plus, under, held, kid, hashAt, walkAt, literal, listF}
-use Rattle.held.specs.Edit.{WellFormed, Plain}
+use Rattle.held.specs.Forest.{Forest, under, held, WellFormed}
+use Rattle.held.specs.Walks.{Hit, miss, hit, hash, plus, kid, hashAt, walkAt, literal, listF}
+use Rattle.held.specs.Edit.{Plain}
 use Rattle.held.specs.Stream.{hashHit, walkHit, literalHit, listHit}
 use Rattle.held.proofs.Stores.{null}
 use Rattle.held.proofs.Walks.{list-is}

@@ -26,6 +26,9 @@ pub and-right : (a b : Bool) → (a && b) ≡ true → b ≡ true
 and-right true b e = e
 and-right false b e = absurd (true≢false (sym e))
 
+pub and-both : (a b : Bool) → a ≡ true → b ≡ true → (a && b) ≡ true
+and-both a b p q = rw (p, q)
+
 pub data Tri {K : Type 0} (lt : K → K → Bool) (a b : K) : Type 0 where
   lower : lt a b ≡ true → lt b a ≡ false → Tri lt a b
   alike : a ≡ b → Tri lt a b

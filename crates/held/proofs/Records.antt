@@ -16,7 +16,8 @@ use Rattle.held.specs.History.{run}
 use Rattle.held.specs.Bytes.{each}
 use Rattle.held.specs.Subscriptions.{Pair, Call, subscriptions, listing, listingRecord, listingBytes}
 use Rattle.held.specs.Retained.{Named, left, nameRecord}
-use Rattle.held.proofs.Bounds.{SizedRecord, listing-sized, SmallCall, run-sized, run-within, SizedName, left-fits}
+use Rattle.held.specs.Sized.{SizedRecord, SizedName}
+use Rattle.held.proofs.Bounds.{listing-sized, SmallCall, run-sized, run-within, left-fits}
 
 -- Reading
 

@@ -10,8 +10,9 @@ use Rattle.held.specs.Ascending.{member}
 use Rattle.held.specs.Room.{nodeCount, levelCells, cellCount, Room, fullRules, roomRules}
 use Rattle.held.specs.Subscriptions.{Pair, isHeld, insertHeld}
 use Rattle.held.specs.Retained.{Stored, Named, hasFilter, setHeld}
-use Rattle.held.specs.Forest.{Forest, held, kid, valuesAt}
-use Rattle.held.specs.Edit.{withValue, insertF, WellFormed, HashLast, sizeF, cellsF, WellNamed, setF, missing, weigh}
+use Rattle.held.specs.Forest.{Forest, held, WellFormed, WellNamed}
+use Rattle.held.specs.Walks.{kid, valuesAt}
+use Rattle.held.specs.Edit.{withValue, insertF, HashLast, sizeF, cellsF, setF, missing, weigh}
 use Rattle.held.proofs.Stores.{null}
 use Rattle.held.proofs.RoomLaws.{rules-by}
 use Rattle.held.proofs.Lengths.{length-insert, length-set}

@@ -16,8 +16,9 @@ use Rattle.held.specs.Ascending.{keep}
 use Rattle.held.specs.Bytes.{each}
 use Rattle.held.specs.Subscriptions.{listing, listingRecord, listingBytes}
 use Rattle.held.specs.Retained.{Stored, Named, unexpired, lookup, nameRecord, lookupBytes, page, pageBytes, more}
-use Rattle.held.specs.Forest.{Forest, leaf, fork, Hit, miss, hit, hash, plus, under, held, kid, emit, hashAt, walkAt, literal, listF, fits, onward, look, lookF}
-use Rattle.held.specs.Edit.{WellFormed, Plain}
+use Rattle.held.specs.Forest.{Forest, leaf, fork, under, held, WellFormed}
+use Rattle.held.specs.Walks.{Hit, miss, hit, hash, plus, kid, emit, hashAt, walkAt, literal, listF, fits, onward, look, lookF}
+use Rattle.held.specs.Edit.{Plain}
 use Rattle.held.specs.Stream.{recordAt, hashBytes, walkBytes, literalBytes, listBytes, oneOf, hashCount, walkCount, literalCount, listCount, inPage, paged, ownCount, ownBytes, rowCount, rowBytes}
 use Rattle.held.proofs.Walks.{list-is}
 use Rattle.held.proofs.Lookup.{lookup-is}

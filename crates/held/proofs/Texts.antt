@@ -2,14 +2,14 @@
 use mathlib.Core.Path.{_≡_, refl, sym, ap, _∙_}
 use Prim.Native.Nat.{ℕ, suc, _+_, _≤_, _<_}
 use mathlib.Core.Bool.{Bool, true, false, cond, _||_, true≢false}
-use mathlib.Core.List.{List, [], _∷_, _++_, append-assoc}
+use mathlib.Core.List.{List, [], _∷_}
 use borrow.Author.Tests.{ltb-false, le-ltb}
 use lib.Dec.{eqb, ltb}
 use lib.ListN.{length}
 use native.Mathlib.Omega.{arith}
-use Rattle.level.proofs.Join.{join-split}
+use Rattle.level.proofs.Join.{join-split, head-false, rest-false}
 use Rattle.level.specs.Kinds.{isOnly, wild}
-use Rattle.level.specs.Levels.{split, join, push}
+use Rattle.level.specs.Levels.{split, push}
 use Rattle.topic.proofs.RuleLaws.{some-level}
 use Rattle.topic.specs.Answers.{checked}
 use Rattle.topic.specs.Rules.{Rule, _gives_, index, nameRules, filterRules}
@@ -17,14 +17,7 @@ use Rattle.topic.specs.declared.Checked.the-variants.{Refused}
 use Rattle.held.specs.Order.{Level, Filter}
 use Rattle.held.specs.History.{accepted}
 use Rattle.held.specs.Edit.{Plain, HashLast}
-
-or-left : (a b : Bool) → (a || b) ≡ false → a ≡ false
-or-left true b e = e
-or-left false b e = refl
-
-or-right : (a b : Bool) → (a || b) ≡ false → b ≡ false
-or-right true b e = absurd (true≢false e)
-or-right false b e = e
+use Rattle.held.specs.Sized.{Written}
 
 -- no level has a wildcard byte
 abbrev Tame : Filter → Type 0
@@ -39,11 +32,11 @@ tame-push b false (l ∷ ls) e w = (rw e (w .0), w .1)
 tame-split : (s : List ℕ) → wild s ≡ false → Tame (split s)
 tame-split [] e = (refl, tt)
 tame-split (b ∷ s) e =
-    tame-push b (eqb b 47) (split s) (or-left (eqb b 43 || eqb b 35) (wild s) e) (tame-split s (or-right (eqb b 43 || eqb b 35) (wild s) e))
+    tame-push b (eqb b 47) (split s) (head-false (eqb b 43 || eqb b 35) (wild s) e) (tame-split s (rest-false (eqb b 43 || eqb b 35) (wild s) e))
 
 tame-only : (l : Level) → wild l ≡ false → (isOnly 35 l ≡ false) × (isOnly 43 l ≡ false)
 tame-only [] e = (refl, refl)
-tame-only (x ∷ []) e = let q : (eqb x 43 || eqb x 35) ≡ false = or-left (eqb x 43 || eqb x 35) false e in (or-right (eqb x 43) (eqb x 35) q, or-left (eqb x 43) (eqb x 35) q)
+tame-only (x ∷ []) e = let q : (eqb x 43 || eqb x 35) ≡ false = head-false (eqb x 43 || eqb x 35) false e in (rest-false (eqb x 43) (eqb x 35) q, head-false (eqb x 43) (eqb x 35) q)
 tame-only (x ∷ y ∷ l) e = (refl, refl)
 
 plain : (ls : Filter) → Tame ls → Plain ls
@@ -81,11 +74,6 @@ kept ((broken gives r) ∷ rules) e = go broken (kept rules) e
     go true k e = absurd (true≢false (sym e))
     go false k e = (refl, k e)
 
--- levels that are a text's, of at most 65,535 bytes
-pub record Written (f : Filter) : Type 0 where
-  pub levels : split (join f) ≡ f
-  pub short : length (join f) ≤ 65535
-
 written-split : (s : List ℕ) → length s ≤ 65535 → Written (split s)
 written-split s h = record { levels = ap split (join-split s); short = rw (join-split s) h }
 
@@ -104,8 +92,3 @@ name-written s e = written-split s (ltb-false 65535 (length s) (kept (nameRules 
 -- every text has a level
 pub some-levels : (s : List ℕ) → split s ≡ [] → ⊥
 some-levels s e = let h : 0 < length (split s) = some-level s in let z : length (split s) ≡ 0 = rw e in omega arith
-
--- the text of a path with one level more
-pub join-snoc : (l : Level) (ls : Filter) (m : Level) → join ((l ∷ ls) ++ m ∷ []) ≡ join (l ∷ ls) ++ 47 ∷ m
-join-snoc l [] m = refl
-join-snoc l (k ∷ ls) m = ap (λ (t : List ℕ). l ++ 47 ∷ t) (join-snoc k ls m) ∙ sym (append-assoc l (47 ∷ join (k ∷ ls)) (47 ∷ m))

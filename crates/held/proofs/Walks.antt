@@ -10,7 +10,8 @@ use Rattle.topic.specs.Match.{takes, leadWild, leadDollar, match47}
 use Rattle.held.specs.Order.{Level, Filter, equal, sameFilter, rankLt, listingLt}
 use Rattle.held.specs.Ascending.{keep, Below, Asc}
 use Rattle.held.specs.Subscriptions.{valuesOf, listing}
-use Rattle.held.specs.Forest.{Forest, leaf, fork, Hit, miss, hit, hash, plus, under, held, kid, valuesAt, Over, Rows, HashEnds, emit, hashAt, walkAt, literal, listF}
+use Rattle.held.specs.Forest.{Forest, leaf, fork, under, held, Over, Rows, HashEnds}
+use Rattle.held.specs.Walks.{Hit, miss, hit, hash, plus, kid, valuesAt, emit, hashAt, walkAt, literal, listF}
 use Rattle.held.specs.Edit.{Plain}
 use Rattle.held.proofs.Orders.{eq-lower, lex-head, lex-tail, level-order, filter-order, rank-order, listing-order}
 use Rattle.held.proofs.Stores.{orElse, Before, find-append, below-append, asc-append}

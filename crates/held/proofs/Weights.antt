@@ -6,7 +6,8 @@ use mathlib.Core.List.{List, [], _∷_}
 use native.Mathlib.Omega.{arith}
 use Rattle.level.specs.Kinds.{same}
 use Rattle.held.specs.Order.{Level, Filter, levelLt}
-use Rattle.held.specs.Forest.{Forest, leaf, fork, miss, kid, Over, Rows}
+use Rattle.held.specs.Forest.{Forest, leaf, fork, Over, Rows}
+use Rattle.held.specs.Walks.{miss, kid}
 use Rattle.held.specs.Edit.{editOwn, chain, growF, pruned, cutF, weighF, missing, weigh, lost, gone}
 use Rattle.held.proofs.Orders.{Tri, lower, alike, higher, tri, eq-higher, level-order}
 use Rattle.held.proofs.Walks.{kid-over}

@@ -1,4 +1,4 @@
--- FOR THE PROOFS. Changes of a forest along a path, what makes it well formed, and the counts of its nodes and cells. Assumes nothing.
+-- FOR THE PROOFS. Changes of a forest along a path, and the counts of its nodes and cells. Assumes nothing.
 use mathlib.Core.Path.{_≡_}
 use Prim.Native.Nat.{ℕ, _+_}
 use mathlib.Core.Bool.{Bool, true, false, not, cond}
@@ -6,9 +6,10 @@ use mathlib.Core.List.{List, [], _∷_, _++_, map}
 use lib.Dec.{eqb, ltb}
 use Rattle.level.specs.Kinds.{isOnly, same}
 use Rattle.held.specs.Order.{Level, Filter, levelLt}
-use Rattle.held.specs.Ascending.{keep, Asc, put}
+use Rattle.held.specs.Ascending.{keep, put}
 use Rattle.held.specs.Room.{levelCells}
-use Rattle.held.specs.Forest.{Forest, leaf, fork, Hit, miss, hit, kid, Rows, HashEnds}
+use Rattle.held.specs.Forest.{Forest, leaf, fork}
+use Rattle.held.specs.Walks.{Hit, miss, hit, kid}
 
 -- u is done where the path ends
 abbrev pub editOwn : {X : Type 0} → (List X → List X) → Filter → List X → List X
@@ -58,26 +59,6 @@ insertF p x F = growF (withValue x) p F
 unfoldable pub removeF : Filter → ℕ → Forest ℕ → Forest ℕ
 removeF p x F = cutF (withoutValue x) p F
 
--- what every node holds has a property
-abbrev pub Owns : {X : Type 0} → (List X → Type 0) → Forest X → Type 0
-Owns P leaf = Unit {0}
-Owns P (fork t v k n) = P v × Owns P k × Owns P n
-
--- every node holds something or has children
-abbrev pub Full : {X : Type 0} → Forest X → Type 0
-Full leaf = Unit {0}
-Full (fork t v k n) = (v ≡ [] → k ≡ leaf → ⊥) × Full k × Full n
-
-abbrev pub AscValues : List ℕ → Type 0
-AscValues v = Asc ltb (λ y. y) v
-
--- a forest of subscriptions
-pub record WellFormed (F : Forest ℕ) : Type 0 where
-  pub rows : Rows F
-  pub ends : HashEnds F
-  pub owns : Owns AscValues F
-  pub full : Full F
-
 -- a name's levels are no wildcards
 abbrev pub Plain : Filter → Type 0
 Plain [] = Unit {0}
@@ -103,18 +84,6 @@ sizeF F = weighF (λ t. 1) F
 
 abbrev pub cellsF : {X : Type 0} → Forest X → ℕ
 cellsF F = weighF levelCells F
-
--- Retained: a node holds at most one
-abbrev pub Single : {X : Type 0} → List X → Type 0
-Single [] = Unit {0}
-Single (x ∷ []) = Unit {0}
-Single (x ∷ y ∷ v) = ⊥
-
--- a forest of retained names
-pub record WellNamed {X : Type 0} (F : Forest X) : Type 0 where
-  pub rows : Rows F
-  pub owns : Owns Single F
-  pub full : Full F
 
 unfoldable pub setF : {X : Type 0} → Filter → X → Forest X → Forest X
 setF n s F = growF (λ v. s ∷ []) n F

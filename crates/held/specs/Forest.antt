@@ -1,28 +1,20 @@
--- FOR THE PROOFS. A store's nodes as a forest, what it holds, and the walks over it. Assumes nothing.
+-- TO BELIEVE. A store's nodes as a forest, what it holds, and when a forest is well formed. The definition of a store
+-- (crates/region/specs/Store.antt) rests on it. Assumes nothing.
 use mathlib.Core.Path.{_≡_}
-use mathlib.Core.Bool.{Bool, true, false, not, cond, _&&_, _||_}
+use Prim.Native.Nat.{ℕ}
+use mathlib.Core.Bool.{true}
 use mathlib.Core.List.{List, [], _∷_, _++_, map}
-use Rattle.level.specs.Kinds.{isOnly, same, dollar}
-use Rattle.topic.specs.Match.{levelTakes, takes, leadWild, leadDollar}
+use lib.Dec.{ltb}
+use Rattle.level.specs.Kinds.{isOnly}
 use Rattle.held.specs.Order.{Level, Filter, levelLt}
-use Rattle.held.specs.Ascending.{keep}
+use Rattle.held.specs.Ascending.{Asc}
 
 -- a row of nodes: the first one's level, what it holds, the row of its children, and the rest of the row
 pub data Forest (X : Type 0) : Type 0 where
   leaf : Forest X
   fork : (text : Level) (own : List X) (kids next : Forest X) → Forest X
 
--- a node without its place
-pub data Hit (X : Type 0) : Type 0 where
-  miss : Hit X
-  hit : (own : List X) (kids : Forest X) → Hit X
-
-abbrev pub hash : Level
-hash = 35 ∷ []
-
-abbrev pub plus : Level
-plus = 43 ∷ []
-
+-- what stands below a level
 abbrev pub under : {Y : Type 0} → Level → Filter × Y → Filter × Y
 under t p = (t ∷ p .0, p .1)
 
@@ -30,18 +22,6 @@ under t p = (t ∷ p .0, p .1)
 unfoldable pub held : {X : Type 0} → Forest X → List (Filter × X)
 held leaf = []
 held (fork t v k n) = map (λ x. (t ∷ [], x)) v ++ (map (under t) (held k) ++ held n)
-
--- the node of a row with a level
-unfoldable pub kid : {X : Type 0} → Level → Forest X → Hit X
-kid g leaf = miss
-kid g (fork t v k n) = cond (same g t) (hit v k) (kid g n)
-
--- what stands at the end of a path from a node
-unfoldable pub valuesAt : {X : Type 0} → Filter → Hit X → List X
-valuesAt [] miss = []
-valuesAt [] (hit v k) = v
-valuesAt (g ∷ gs) miss = []
-valuesAt (g ∷ gs) (hit v k) = valuesAt gs (kid g k)
 
 -- the levels of a row come after t
 abbrev pub Over : {X : Type 0} → Level → Forest X → Type 0
@@ -58,52 +38,34 @@ abbrev pub HashEnds : {X : Type 0} → Forest X → Type 0
 HashEnds leaf = Unit {0}
 HashEnds (fork t v k n) = (isOnly 35 t ≡ true → k ≡ leaf) × HashEnds k × HashEnds n
 
--- The listing's walk
+-- what every node holds has a property
+abbrev pub Owns : {X : Type 0} → (List X → Type 0) → Forest X → Type 0
+Owns P leaf = Unit {0}
+Owns P (fork t v k n) = P v × Owns P k × Owns P n
 
--- a record, where there are values
-abbrev pub emit : {X : Type 0} → Filter → List X → List (Filter × List X)
-emit f [] = []
-emit f (x ∷ v) = (f, x ∷ v) ∷ []
+-- every node holds something or has children
+abbrev pub Full : {X : Type 0} → Forest X → Type 0
+Full leaf = Unit {0}
+Full (fork t v k n) = (v ≡ [] → k ≡ leaf → ⊥) × Full k × Full n
 
-abbrev pub hashAt : {X : Type 0} → Hit X → List (Filter × List X)
-hashAt miss = []
-hashAt (hit v k) = emit (hash ∷ []) v
+abbrev pub AscValues : List ℕ → Type 0
+AscValues v = Asc ltb (λ y. y) v
 
--- from a node, with the name's remaining levels: '#', then the child '+', then the child with the name's level; at the name's end the node itself, then '#'
-unfoldable pub walkAt : {X : Type 0} → Filter → Hit X → List (Filter × List X)
-walkAt [] miss = []
-walkAt [] (hit v k) = emit [] v ++ hashAt (kid hash k)
-walkAt (n ∷ ns) miss = []
-walkAt (n ∷ ns) (hit v k) = hashAt (kid hash k) ++ (map (under plus) (walkAt ns (kid plus k)) ++ map (under n) (walkAt ns (kid n k)))
+-- a forest of subscriptions
+pub record WellFormed (F : Forest ℕ) : Type 0 where
+  pub rows : Rows F
+  pub ends : HashEnds F
+  pub owns : Owns AscValues F
+  pub full : Full F
 
--- below a first level with '$' only the literal child is walked
-unfoldable pub literal : {X : Type 0} → Filter → Forest X → List (Filter × List X)
-literal [] F = []
-literal (n ∷ ns) F = map (under n) (walkAt ns (kid n F))
+-- Retained: a node holds at most one
+abbrev pub Single : {X : Type 0} → List X → Type 0
+Single [] = Unit {0}
+Single (x ∷ []) = Unit {0}
+Single (x ∷ y ∷ v) = ⊥
 
-unfoldable pub listF : {X : Type 0} → Filter → Forest X → List (Filter × List X)
-listF n F = cond (leadDollar n) (literal n F) (walkAt n (hit [] F))
-
--- The lookup's walk
-
--- the filter's first level takes a level; what is left of the filter below it, where '#' stays
-abbrev pub fits : Filter → Level → Bool
-fits [] t = false
-fits (g ∷ gs) t = isOnly 35 g || levelTakes g t
-
-abbrev pub onward : Filter → Filter
-onward [] = []
-onward (g ∷ gs) = cond (isOnly 35 g) (g ∷ gs) gs
-
--- along a row: a node, if the filter fits it and it is not barred; what it holds that passes q, if the filter ends here; its children; then the rest of the row
-unfoldable pub look : {X : Type 0} → (X → Bool) → Bool → Filter → Forest X → List (Filter × X)
-look q barred fs leaf = []
-look q barred fs (fork t v k n) =
-    cond (not (barred && dollar t) && fits fs t)
-    (map (λ x. (t ∷ [], x)) (cond (takes (onward fs) []) (keep q v) []) ++ map (under t) (look q false (onward fs) k))
-    []
-    ++ look q barred fs n
-
--- names with a leading '$' are barred at the first level where the filter begins with a wildcard
-unfoldable pub lookF : {X : Type 0} → (X → Bool) → Filter → Forest X → List (Filter × X)
-lookF q f F = look q (leadWild f) f F
+-- a forest of retained names
+pub record WellNamed {X : Type 0} (F : Forest X) : Type 0 where
+  pub rows : Rows F
+  pub owns : Owns Single F
+  pub full : Full F

@@ -4,7 +4,10 @@ pub mod Room
 pub mod History
 pub mod Bytes
 pub mod Subscriptions
+pub mod Caught
 pub mod Retained
+pub mod Sized
 pub mod Forest
+pub mod Walks
 pub mod Edit
 pub mod Stream

@@ -41,7 +41,7 @@ filterLt = lex levelLt
 abbrev pub firstBy : {A B : Type 0} → (B → B → Bool) → (A → B) → (A → A → Bool) → A → A → Bool
 firstBy ltB f lt a b = ltB (f a) (f b) || (not (ltB (f b) (f a)) && lt a b)
 
--- a filter and a value: by the filter, then "values ascend"
+-- a filter and a value: by the filter, then "Values ascend."
 abbrev pub samePair : Filter × ℕ → Filter × ℕ → Bool
 samePair p q = sameFilter (p .0) (q .0) && eqb (p .1) (q .1)
 

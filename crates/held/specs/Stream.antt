@@ -8,7 +8,8 @@ use Rattle.topic.specs.Match.{takes, leadDollar}
 use Rattle.held.specs.Order.{Filter}
 use Rattle.held.specs.Subscriptions.{listingRecord}
 use Rattle.held.specs.Retained.{Stored, unexpired, nameRecord}
-use Rattle.held.specs.Forest.{Forest, leaf, fork, Hit, miss, hit, hash, plus, kid, fits, onward}
+use Rattle.held.specs.Forest.{Forest, leaf, fork}
+use Rattle.held.specs.Walks.{Hit, miss, hit, hash, plus, kid, fits, onward}
 
 -- The listing
 

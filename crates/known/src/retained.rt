@@ -1,10 +1,10 @@
-// The calls on a store of retained names.
+// The calls on a store of retained names, without the test of the region.
 ghost use Rattle.refusal.specs.Refusals.{_at_};
 ghost use Rattle.held.specs.Retained.{set, sweep};
 ghost use Rattle.edit.specs.Calls.{Does};
 ghost use Rattle.retain.specs.Calls.{retainedStore, storedAs};
 ghost use Rattle.retain.specs.Lookups.{LooksKnown, PagesKnown};
-ghost use Rattle.cjumbradi.specs.Stores.{ofChanged, Tells, TellsListing, TellsPage};
+ghost use Rattle.cjumbradi.specs.Stores.{ofChanged, ofListed, ofPaged, Tells};
 ghost use Rattle.cjumbradi.specs.Moments.{momentGiven};
 use cjumbradi::moment_given;
 use cjumbradi::tell_changed;
@@ -39,7 +39,7 @@ pub extern "C" fn cjumbradi_known_lookup(
     bytes: &mut u64,
     records: &mut u64,
 ) -> u64
-    ensures { λ n. ⌜ TellsListing (LooksKnown (now (region .entry)) (now (filter .entry)) clock (now (out .entry)) (now (out .exit))) (n at now (bytes .exit)) (now (records .exit)) ⌝ }
+    ensures { λ n. ⌜ Tells ofListed (LooksKnown (now (region .entry)) (now (filter .entry)) clock (now (out .entry)) (now (out .exit))) (n at now (bytes .exit), now (records .exit)) ⌝ }
 {
     tell_listed(
         retain::get_known(region, filter, clock, out),
@@ -59,7 +59,7 @@ pub extern "C" fn cjumbradi_known_page(
     records: &mut u64,
     more: &mut u64,
 ) -> u64
-    ensures { λ n. ⌜ TellsPage (PagesKnown (now (region .entry)) clock offset limit (now (out .entry)) (now (out .exit))) (n at now (bytes .exit)) (now (records .exit)) (now (more .exit)) ⌝ }
+    ensures { λ n. ⌜ Tells ofPaged (PagesKnown (now (region .entry)) clock offset limit (now (out .entry)) (now (out .exit))) (n at now (bytes .exit), now (records .exit), now (more .exit)) ⌝ }
 {
     let page = retain::get_all_paginated_known(region, clock, offset, limit, out);
     tell_paged(page, bytes, records, more)

@@ -1,11 +1,11 @@
-// The calls on a store of subscriptions.
+// The calls on a store of subscriptions, without the test of the region.
 ghost use Rattle.refusal.specs.Refusals.{_at_};
 ghost use Rattle.held.specs.Subscriptions.{insert, remove};
 ghost use Rattle.edit.specs.Calls.{Does};
 ghost use Rattle.trie.specs.Calls.{subscriptionStore};
 ghost use Rattle.trie.specs.Listings.{AsksKnown, ListsKnown};
 ghost use Rattle.cjumbradi.specs.Calls.{ofMatched};
-ghost use Rattle.cjumbradi.specs.Stores.{ofChanged, Tells, TellsListing};
+ghost use Rattle.cjumbradi.specs.Stores.{ofChanged, ofListed, Tells};
 use cjumbradi::tell_changed;
 use cjumbradi::tell_listed;
 use cjumbradi::tell_matched;
@@ -49,7 +49,7 @@ pub extern "C" fn cjumbradi_known_listing(
     bytes: &mut u64,
     records: &mut u64,
 ) -> u64
-    ensures { λ n. ⌜ TellsListing (ListsKnown (now (region .entry)) (now (name .entry)) (now (out .entry)) (now (out .exit))) (n at now (bytes .exit)) (now (records .exit)) ⌝ }
+    ensures { λ n. ⌜ Tells ofListed (ListsKnown (now (region .entry)) (now (name .entry)) (now (out .entry)) (now (out .exit))) (n at now (bytes .exit), now (records .exit)) ⌝ }
 {
     tell_listed(trie::matches_known(region, name, out), bytes, records)
 }

@@ -9,9 +9,9 @@ use lib.ListN.{length, take, drop, set, replicate, length-replicate}
 use lib.Dec.{leb}
 use borrow.Author.Tests.{le-leb, lt-leb}
 use Rattle.lent.specs.Numbers.{be, bytes}
-use Rattle.lent.specs.Parts.{part, patch, Framed}
-use Rattle.lent.specs.Total.{read, write, opened, closed}
-use Rattle.lent.proofs.Parts.{part-eq, part-part, length-part, length-patch, part-patch-before, part-patch-after, framed-patch, framed-same}
+use Rattle.lent.specs.Parts.{part, patch}
+use Rattle.lent.specs.Total.{Framed, read, write, opened, closed}
+use Rattle.lent.proofs.Parts.{part-eq, part-part, length-part, length-patch, framed-patch, framed-same}
 use Rattle.lent.proofs.Turns.{part-none, patch-none}
 use Rattle.lent.proofs.Digits.{length-bytes, bytes-mod, set-pair, get-put, put-halves}
 

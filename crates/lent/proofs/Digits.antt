@@ -2,18 +2,16 @@
 use Prim.Native.Nat.{ℕ, zero, suc, _+_, _-_, _*_, _/_, _%_, _^_, _≤_, _<_}
 use mathlib.Core.Path.{_≡_, refl, sym, ap, _∙_}
 use mathlib.Core.List.{List, [], _∷_, _++_, append-assoc, append-nil}
-use native.Mathlib.Nat.{add-assoc, add-zero, zero-add, suc-add, add-suc, add-mul, mul-assoc, pow-suc, pow-succ', pow-zero, div-one, div-div-eq-div-mul, mul-comm}
-use native.Mathlib.Numerals.{add-one, one-add}
+use native.Mathlib.Nat.{add-assoc, add-zero, add-suc, add-mul, mul-assoc, pow-suc, pow-succ', pow-zero, div-one, div-div-eq-div-mul}
+use native.Mathlib.Numerals.{one-add}
 use native.Mathlib.Omega.{arith}
-use lib.ListN.{length, take, drop, getD, set, length-append}
+use lib.ListN.{length, getD, set, length-append}
 use lib.Arith.{mod-mul, digits-lt, digits-div, digits-mod}
-use mir.Val.{Fits}
-use mir.Syntax.{w8}
 use lib.Pow.{pow-add}
-use lib.Seq.{take-suc, take-length, drop-cons, getD-drop}
+use lib.Seq.{take-length, drop-cons}
 use Rattle.lent.specs.Numbers.{be, bytes}
 use Rattle.lent.specs.Parts.{part, patch}
-use Rattle.lent.proofs.Parts.{part-add, length-part, part-patch, part-patch-before, part-patch-after, patch-append, set-patch, length-patch}
+use Rattle.lent.proofs.Parts.{part-add, length-part, part-patch, patch-append, set-patch, length-patch}
 
 pub be-append : (x y : List ℕ) → be (x ++ y) ≡ be x * 256 ^ length y + be y
 unfolding be
@@ -51,13 +49,6 @@ be-add p a b s h = rw (part-add, be-append, length-part (p + a) b s h)
 -- what was written is read
 pub get-put : (w p v : ℕ) (s : List ℕ) → p + w ≤ length s → v < 256 ^ w → be (part p w (patch p (bytes w v) s)) ≡ v
 get-put w p v s h k = ap be (rw length-bytes at (part-patch p (bytes w v) s (rw length-bytes h))) ∙ be-bytes w v k
-
--- and what stands elsewhere is read as it was
-pub get-put-before : (w p v q u : ℕ) (s : List ℕ) → p + w ≤ length s → q + u ≤ p → be (part q u (patch p (bytes w v) s)) ≡ be (part q u s)
-get-put-before w p v q u s h k = ap be (part-patch-before p (bytes w v) s (rw length-bytes h) q u k)
-
-pub get-put-after : (w p v q u : ℕ) (s : List ℕ) → p + w ≤ length s → p + w ≤ q → be (part q u (patch p (bytes w v) s)) ≡ be (part q u s)
-get-put-after w p v q u s h k = ap be (part-patch-after p (bytes w v) s (rw length-bytes h) q u (rw length-bytes k))
 
 -- two stores
 pub set-pair : (p x y : ℕ) (s : List ℕ) → p + 2 ≤ length s → set (set s p x) (p + 1) y ≡ patch p (x ∷ y ∷ []) s

@@ -1,14 +1,14 @@
 -- Laws of `part`, `patch` and `Framed`. Assumes nothing.
-use Prim.Native.Nat.{ℕ, zero, suc, _+_, _-_, _*_, _/_, _%_, _^_, _≤_, _<_, min}
+use Prim.Native.Nat.{ℕ, zero, suc, _+_, _-_, _≤_, _<_, min}
 use mathlib.Core.Path.{_≡_, refl, sym, ap, _∙_}
-use mathlib.Core.List.{List, [], _∷_, _++_, append-assoc, append-nil}
-use native.Mathlib.Nat.{add-assoc, add-zero, zero-add, suc-add, add-suc}
+use mathlib.Core.List.{List, [], _∷_, _++_, append-assoc}
+use native.Mathlib.Nat.{add-assoc, zero-add, suc-add}
 use native.Mathlib.Numerals.{add-one}
 use native.Mathlib.Omega.{arith}
-use lib.ListN.{length, take, drop, getD, set, length-append, length-take, length-drop, length-set}
-use lib.Seq.{take-at, drop-at, take-append-le, drop-append-le, take-take, drop-drop, take-add, length-take-le, take-nil, drop-nil, set-split, append-snoc}
-use Rattle.lent.specs.Numbers.{be, bytes}
-use Rattle.lent.specs.Parts.{part, patch, Framed}
+use lib.ListN.{length, take, drop, set, length-append, length-take, length-drop}
+use lib.Seq.{take-at, drop-at, take-append-le, take-take, drop-drop, take-add, length-take-le, take-nil, set-split, append-snoc}
+use Rattle.lent.specs.Parts.{part, patch}
+use Rattle.lent.specs.Total.{Framed}
 
 pub take-drop : (q w : ℕ) (s : List ℕ) → take w (drop q s) ≡ drop q (take (q + w) s)
 take-drop zero w s = rw zero-add

@@ -5,10 +5,10 @@ use mathlib.Core.List.{List, [], _∷_, _++_, append-nil}
 use native.Mathlib.Nat.{add-zero, zero-add}
 use native.Mathlib.Numerals.{add-one}
 use native.Mathlib.Omega.{arith}
-use lib.ListN.{length, take, drop, getD, set, replicate, length-replicate, length-append, take-append-drop, List·getD-append}
+use lib.ListN.{length, getD, set, replicate, length-replicate, take-append-drop}
 use lib.Seq.{getD-drop, getD-take, take-length}
 use Rattle.lent.specs.Parts.{part, patch}
-use Rattle.lent.proofs.Parts.{part-add, length-part, length-patch, patch-append, patch-prepend, set-patch, take-patch-le, drop-patch, drop-past, patch-eq, part-patch-before, part-patch-after}
+use Rattle.lent.proofs.Parts.{part-add, length-part, length-patch, patch-append, patch-prepend, set-patch, take-patch-le, drop-patch, drop-past}
 use Rattle.lent.proofs.Digits.{part-one}
 
 -- an element before what was written, and one after it, is as it was

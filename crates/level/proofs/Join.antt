@@ -1,5 +1,5 @@
 -- Levels and their text: `split` and `join` undo each other, on lists of levels with no '/'. Assumes nothing.
-use mathlib.Core.Path.{_≡_, refl, sym, ap, _∙_}
+use mathlib.Core.Path.{_≡_, refl, ap, _∙_}
 use mathlib.Core.Bool.{Bool, true, false, _||_, true≢false}
 use mathlib.Core.List.{List, [], _∷_, _++_}
 use Prim.Native.Nat.{ℕ}
@@ -27,14 +27,12 @@ pub data Clean : List (List ℕ) → Type 0 where
   no-more : Clean []
   clean : {l : List ℕ} {ls : List (List ℕ)} → has 47 l ≡ false → Clean ls → Clean (l ∷ ls)
 
-pub split-injective : (a b : List ℕ) → split a ≡ split b → a ≡ b
-split-injective a b e = sym (join-split a) ∙ ap join e ∙ join-split b
-
-head-false : (a b : Bool) → (a || b) ≡ false → a ≡ false
+-- neither of two
+pub head-false : (a b : Bool) → (a || b) ≡ false → a ≡ false
 head-false true b e = e
 head-false false b e = refl
 
-rest-false : (a b : Bool) → (a || b) ≡ false → b ≡ false
+pub rest-false : (a b : Bool) → (a || b) ≡ false → b ≡ false
 rest-false true b e = absurd (true≢false e)
 rest-false false b e = e
 

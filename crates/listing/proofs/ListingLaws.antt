@@ -9,7 +9,7 @@ use Rattle.level.specs.Levels.{split, width}
 use Rattle.level.specs.Places.{first, levelsAt, endOf}
 use Rattle.level.proofs.Split.{levels-cons, levels-none}
 use Rattle.held.specs.Order.{Level, Filter}
-use Rattle.held.specs.Forest.{hash, plus, kid}
+use Rattle.held.specs.Walks.{hash, plus, kid}
 use Rattle.held.specs.Stream.{listBytes, listCount}
 use Rattle.held.proofs.Equations.{walk-miss, walk-end, walk-on}
 use Rattle.walk.specs.declared.Node.{Node}

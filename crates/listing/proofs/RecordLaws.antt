@@ -16,12 +16,12 @@ use Rattle.level.specs.Levels.{join, width}
 use Rattle.held.specs.Order.{Filter}
 use Rattle.held.specs.Bytes.{each}
 use Rattle.held.specs.Subscriptions.{listingRecord}
-use Rattle.held.specs.Forest.{hash, kid}
+use Rattle.held.specs.Walks.{hash, kid}
 use Rattle.held.specs.Stream.{oneOf, recordAt, hashBytes, hashCount}
 use Rattle.walk.specs.declared.Node.{Node}
 use Rattle.walk.specs.declared.Measured.{Measured}
 use Rattle.walk.specs.declared.Node.the-variants.{At, Nothing}
-use Rattle.walk.specs.Nodes.{NodeIn, Below, Kid}
+use Rattle.walk.specs.Nodes.{NodeIn, Kid}
 use Rattle.listing.specs.Trails.{pathAt, wholeText}
 use Rattle.listing.specs.Written.{Wrote, Added, unitValues, Values, RecordRoom, RecordWritten, HashRoom, HashWritten, BelowWritten, EndWritten}
 use Rattle.walk.proofs.NodeLaws.{opened, missed}
@@ -207,18 +207,6 @@ below-written base s lo hi depth p {n} old new a b k w =
     record { within = w .within; few = w .few; is = λ F x y. w .is (depth + 1) (kid hash F) (k .is F x y) }
 
 -- a node's own, and then that of its '#'
-pub own-record : (base : ℕ) (s : List ℕ) (e q size t : ℕ) (name marks : List ℕ) (depth : ℕ) → Below base s e q → HashRoom size name marks depth → t ≡ size - 1
-    → RecordRoom base s e t name marks depth
-own-record base s e q size t name marks depth b r et =
-    record {
-      units = omega (arith, b .low, b .within);
-      short = omega (arith, r .short, et);
-      deep = r .deep;
-      marked = r .marked;
-      some = r .some;
-      text-fits = omega (arith, r .size-is, et);
-    }
-
 pub end-written : (base : ℕ) (s : List ℕ) (v e q size t : ℕ) (name marks : List ℕ) (depth : ℕ) (old mid new : List ℕ) (a b c : Measured) → HashRoom size name marks depth → t ≡ size - 1 → length mid ≡ length old
     → RecordWritten base s v e t (pathAt marks depth name) old mid a b → BelowWritten base s e q depth (pathAt marks depth name) mid new b c
     → EndWritten base s v e q depth (pathAt marks depth name) old new a c

@@ -14,7 +14,7 @@ use Rattle.lent.proofs.Anywhere.{write-in, write-framed}
 use Rattle.level.specs.Levels.{split, width}
 use Rattle.level.specs.Places.{levelsAt}
 use Rattle.held.specs.Order.{Level, Filter}
-use Rattle.held.specs.Forest.{hash, plus}
+use Rattle.held.specs.Walks.{hash, plus}
 use Rattle.walk.specs.Steps.{NextLevel}
 use Rattle.listing.specs.Trails.{taken, pathOf, pathAt, slashed, wholeText}
 use Rattle.listing.specs.Written.{WroteLevel}

@@ -12,7 +12,7 @@ use Rattle.level.specs.Levels.{split, join, width}
 use Rattle.level.specs.Places.{levelsAt}
 use Rattle.level.proofs.Split.{drop-next, drop-end, levels-none}
 use Rattle.held.specs.Order.{Level, Filter}
-use Rattle.held.specs.Forest.{hash}
+use Rattle.held.specs.Walks.{hash}
 use Rattle.walk.specs.Steps.{NextLevel}
 use Rattle.listing.specs.Trails.{taken, pathOf, slashed, wholeText}
 

@@ -8,7 +8,7 @@ use lib.ListN.{length, take, drop}
 use Rattle.level.specs.Levels.{split, width}
 use Rattle.level.specs.Places.{levelsAt}
 use Rattle.held.specs.Order.{Level, Filter}
-use Rattle.held.specs.Forest.{hash, plus}
+use Rattle.held.specs.Walks.{hash, plus}
 
 -- what was taken of a level of the name
 abbrev pub taken : (mark : ℕ) → Level → Level

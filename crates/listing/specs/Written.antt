@@ -10,7 +10,8 @@ use Rattle.level.specs.Places.{levelsAt}
 use Rattle.held.specs.Order.{Filter}
 use Rattle.held.specs.Ascending.{All}
 use Rattle.held.specs.Bytes.{each}
-use Rattle.held.specs.Forest.{Forest, Hit, hash, kid}
+use Rattle.held.specs.Forest.{Forest}
+use Rattle.held.specs.Walks.{Hit, hash, kid}
 use Rattle.held.specs.Stream.{oneOf, recordAt, hashBytes, hashCount, walkBytes, walkCount}
 use Rattle.region.specs.Units.{valueBytes}
 use Rattle.forest.specs.Places.{unitAt}

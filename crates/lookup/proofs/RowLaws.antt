@@ -7,7 +7,8 @@ use native.Mathlib.Omega.{arith}
 use Rattle.level.specs.Kinds.{isOnly, same, dollar}
 use Rattle.held.specs.Order.{Level, Filter}
 use Rattle.held.specs.Retained.{Stored}
-use Rattle.held.specs.Forest.{Forest, leaf, fork, Hit, miss, hit, kid, Rows, fits}
+use Rattle.held.specs.Forest.{Forest, leaf, fork, Rows}
+use Rattle.held.specs.Walks.{Hit, miss, hit, kid, fits}
 use Rattle.held.specs.Stream.{rowCount, rowBytes}
 use Rattle.held.proofs.Orders.{level-order}
 use Rattle.held.proofs.Walks.{kid-over}

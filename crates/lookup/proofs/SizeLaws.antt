@@ -14,7 +14,8 @@ use Rattle.level.specs.Places.{levelsAt}
 use Rattle.topic.specs.Match.{takes}
 use Rattle.held.specs.Order.{Level, Filter}
 use Rattle.held.specs.Retained.{Stored}
-use Rattle.held.specs.Forest.{Forest, onward}
+use Rattle.held.specs.Forest.{Forest}
+use Rattle.held.specs.Walks.{onward}
 use Rattle.held.specs.Stream.{inPage, rowCount}
 use Rattle.region.specs.Layout.{levelUnits}
 use Rattle.region.specs.Units.{storedOf}

@@ -12,8 +12,8 @@ use Rattle.level.specs.Places.{levelsAt}
 use Rattle.level.proofs.Split.{levels-none}
 use Rattle.held.specs.Order.{Level, Filter}
 use Rattle.held.specs.Retained.{Stored}
-use Rattle.held.specs.Forest.{Forest, leaf, fork, hit, kid}
-use Rattle.held.specs.Edit.{Owns, Single}
+use Rattle.held.specs.Forest.{Forest, leaf, fork, Owns, Single}
+use Rattle.held.specs.Walks.{hit, kid}
 use Rattle.held.specs.Stream.{rowCount, rowBytes}
 use Rattle.held.proofs.Orders.{level-order}
 use Rattle.held.proofs.Equations.{kid-here, kid-next}

@@ -1,6 +1,6 @@
 -- The levels of a filter along a walk, in the words of the code. Assumes nothing.
-use mathlib.Core.Path.{_≡_, refl, sym, ap, _∙_}
-use mathlib.Core.Bool.{Bool, true, false, _&&_, _||_}
+use mathlib.Core.Path.{_≡_, sym, ap, _∙_}
+use mathlib.Core.Bool.{Bool, true, false, _&&_, or-true, or-false}
 use mathlib.Core.List.{List, []}
 use Prim.Native.Nat.{ℕ, _+_, _-_, _≤_, _<_}
 use native.Mathlib.Omega.{arith}
@@ -22,14 +22,6 @@ ends-none filter from h = rw (levels-none filter from h)
 pub ends-some : (filter : List ℕ) (from : ℕ) → from ≤ length filter → {l : List ℕ} → l ≡ first (drop from filter) → {r : Bool} → r ≡ isOnly 35 l → r ≡ takes (levelsAt filter from) []
 ends-some filter from h e f = f ∙ ap (isOnly 35) e ∙ rw (levels-cons filter from h)
 
-or-true : (a b : Bool) → b ≡ true → (a || b) ≡ true
-or-true true b e = refl
-or-true false b e = e
-
-or-false : (a b : Bool) → b ≡ false → (a || b) ≡ a
-or-false true b e = refl
-or-false false b e = e
-
 -- a level
 module _ (filter : List ℕ) (from stop : ℕ) (n : NextLevel filter from stop) {h : Bool} (is : h ≡ isOnly 35 (take (stop - from) (drop from filter))) where
   pub step-hash : h ≡ true → StepOf filter from (record { stop = stop; next = from; wild = true })
@@ -39,7 +31,7 @@ module _ (filter : List ℕ) (from stop : ℕ) (n : NextLevel filter from stop) 
         level = n;
         goes = rw (n .levels, e);
         within = omega (arith, n .on, n .within);
-        wild-is = sym (ap leadWild (n .levels) ∙ or-true (isOnly 43 (take (stop - from) (drop from filter))) (isOnly 35 (take (stop - from) (drop from filter))) e);
+        wild-is = sym (ap leadWild (n .levels) ∙ rw e (or-true (isOnly 43 (take (stop - from) (drop from filter)))));
       }
 
   pub step-level : h ≡ false → {w : Bool} → w ≡ isOnly 43 (take (stop - from) (drop from filter)) → StepOf filter from (record { stop = stop; next = stop + 1; wild = w })
@@ -49,7 +41,7 @@ module _ (filter : List ℕ) (from stop : ℕ) (n : NextLevel filter from stop) 
         level = n;
         goes = rw (n .levels, e);
         within = omega (arith, n .within);
-        wild-is = q ∙ sym (ap leadWild (n .levels) ∙ or-false (isOnly 43 (take (stop - from) (drop from filter))) (isOnly 35 (take (stop - from) (drop from filter))) e);
+        wild-is = q ∙ sym (ap leadWild (n .levels) ∙ rw e (or-false (isOnly 43 (take (stop - from) (drop from filter)))));
       }
 
 -- the page

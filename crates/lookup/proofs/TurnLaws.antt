@@ -7,7 +7,8 @@ use native.Mathlib.Omega.{arith}
 use Rattle.level.specs.Kinds.{dollar}
 use Rattle.held.specs.Order.{Level, Filter}
 use Rattle.held.specs.Retained.{Stored}
-use Rattle.held.specs.Forest.{Forest, leaf, fork, fits, onward}
+use Rattle.held.specs.Forest.{Forest, leaf, fork}
+use Rattle.held.specs.Walks.{fits, onward}
 use Rattle.held.specs.Stream.{rowCount}
 use Rattle.held.proofs.Equations.{count-none, count-in, count-out, row-none, row-in, row-out}
 use Rattle.region.specs.Layout.{rowUnits, unitsF}
@@ -23,6 +24,7 @@ use Rattle.lookup.specs.declared.Along.{Along}
 use Rattle.lookup.specs.Standing.{Standing, NodeIn, NodeHas}
 use Rattle.lookup.specs.Spans.{Taken, AlongOf}
 use Rattle.lookup.specs.Turns.{rowAsked, ownNumber, ownAsked, nodeNumber, nodeAsked, Ready, Rest}
+use Rattle.held.proofs.Orders.{and-both}
 
 -- a node that stands, as the code has it
 module _ (base : ℕ) (s : List ℕ) (left i hi : ℕ) (r : Row) (ra : RowAt base s i hi r) (few : left ≤ 128) (t : Level) (v : List Stored) (k n : Forest Stored) (st : Standing base s left i hi (fork t v k n)) where
@@ -76,9 +78,6 @@ rest-first q b fs base s left lo hi p G first st ta = record { rest = G; stands 
 barred-out : (x y : Bool) → x ≡ true → (not x && y) ≡ false
 barred-out x y e = rw e
 
-free-in : (x y : Bool) → x ≡ false → y ≡ true → (not x && y) ≡ true
-free-in x y e f = rw (e, f)
-
 -- what a visit gives
 pub record Met (q : Query) (b : Bool) (fs : Filter) (base : ℕ) (s : List ℕ) (left unit hi : ℕ) (p : Filter) (G : Forest Stored) (first : ℕ) (done : List ℕ) (i : ℕ) (r : Row) : Type 0 where
   pub level : Level
@@ -119,7 +118,7 @@ module _ (q : Query) (b : Bool) (fs : Filter) (base : ℕ) (s : List ℕ) (left 
         go leaf st ta ps ns = absurd (nothing (st .stands .size))
         go (fork l v k n) st ta ps ns =
             let e : (b && dollar l) ≡ false = rw (level-is base s left unit hi r ra few l v k n st) at (sym is ∙ t) in
-            let o = free-in (b && dollar l) (fits fs l) e (ta .0) in
+            let o = and-both (not (b && dollar l)) (fits fs l) (ap not e) (ta .0) in
             let here : List ℕ = nodeAsked q i (p ++ l ∷ []) (onward fs) v k in
             let next : ℕ = i + nodeNumber q (onward fs) v k in
             record {

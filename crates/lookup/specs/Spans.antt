@@ -9,7 +9,8 @@ use Rattle.level.specs.Places.{levelsAt}
 use Rattle.topic.specs.Match.{leadWild}
 use Rattle.held.specs.Order.{Filter}
 use Rattle.held.specs.Retained.{Stored}
-use Rattle.held.specs.Forest.{Forest, leaf, fork, fits, onward}
+use Rattle.held.specs.Forest.{Forest, leaf, fork}
+use Rattle.held.specs.Walks.{fits, onward}
 use Rattle.held.specs.Stream.{rowCount, rowBytes}
 use Rattle.lookup.specs.declared.Span.{Span}
 use Rattle.lookup.specs.declared.Along.{Along}

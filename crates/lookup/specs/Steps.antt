@@ -5,7 +5,7 @@ use Prim.Native.Nat.{ℕ, _+_, _≤_}
 use lib.ListN.{length}
 use Rattle.level.specs.Places.{levelsAt}
 use Rattle.topic.specs.Match.{leadWild}
-use Rattle.held.specs.Forest.{onward}
+use Rattle.held.specs.Walks.{onward}
 use Rattle.walk.specs.Steps.{NextLevel}
 use Rattle.lookup.specs.declared.Step.{Step}
 

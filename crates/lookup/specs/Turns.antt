@@ -8,7 +8,8 @@ use Rattle.level.specs.Places.{levelsAt}
 use Rattle.topic.specs.Match.{takes}
 use Rattle.held.specs.Order.{Filter}
 use Rattle.held.specs.Retained.{Stored}
-use Rattle.held.specs.Forest.{Forest, onward}
+use Rattle.held.specs.Forest.{Forest}
+use Rattle.held.specs.Walks.{onward}
 use Rattle.held.specs.Stream.{ownCount, ownBytes, rowCount, rowBytes}
 use Rattle.forest.specs.Places.{unitAt}
 use Rattle.lookup.specs.declared.Query.{Query}

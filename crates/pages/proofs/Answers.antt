@@ -7,7 +7,8 @@ use Rattle.lent.specs.Parts.{patch}
 use Rattle.topic.specs.Match.{leadWild}
 use Rattle.held.specs.Order.{Filter}
 use Rattle.held.specs.Retained.{lookup, lookupBytes, pageBytes}
-use Rattle.held.specs.Forest.{hash, held}
+use Rattle.held.specs.Forest.{held}
+use Rattle.held.specs.Walks.{hash}
 use Rattle.held.specs.Stream.{rowBytes}
 use Rattle.held.proofs.Streams.{lookup-bytes, page-bytes}
 use Rattle.lookup.specs.Standing.{storedIn, Looked}

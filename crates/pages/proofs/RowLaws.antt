@@ -11,7 +11,7 @@ use Rattle.level.specs.Levels.{split}
 use Rattle.level.specs.Places.{levelsAt}
 use Rattle.topic.specs.Match.{leadWild}
 use Rattle.held.specs.Order.{Filter}
-use Rattle.held.specs.Forest.{onward}
+use Rattle.held.specs.Walks.{onward}
 use Rattle.held.specs.Stream.{rowBytes}
 use Rattle.forest.specs.declared.Row.{Row}
 use Rattle.forest.specs.Places.{unitAt, levelIn, RowAt}

@@ -1,7 +1,7 @@
 -- The counts in the header of a store are those of what it holds. Assumes nothing.
-use mathlib.Core.Path.{_≡_, refl, sym, ap, _∙_}
+use mathlib.Core.Path.{_≡_, ap, _∙_}
 use mathlib.Core.List.{List}
-use Prim.Native.Nat.{ℕ, _+_, _*_, _^_, _≤_, _<_}
+use Prim.Native.Nat.{ℕ, _+_, _≤_, _<_}
 use native.Mathlib.Omega.{arith}
 use lib.ListN.{length}
 use Rattle.lent.specs.Numbers.{bytes, be}
@@ -12,7 +12,7 @@ use Rattle.lent.proofs.Anywhere.{read-in}
 use Rattle.held.specs.Room.{Room, nodeCount, cellCount}
 use Rattle.held.specs.Forest.{Forest, held}
 use Rattle.held.proofs.Bounds.{in-range}
-use Rattle.region.specs.Layout.{neededBytes, Used, headerBytes}
+use Rattle.region.specs.Layout.{Used, headerBytes}
 use Rattle.region.specs.Store.{roomAt, usedBy, WrittenIn}
 use Rattle.region.proofs.Stores.{header-field}
 

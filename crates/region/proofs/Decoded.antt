@@ -1,19 +1,19 @@
 -- What a forest is written down as is read back as that forest. Assumes nothing.
-use mathlib.Core.Path.{_≡_, refl, sym, ap, _∙_}
+use mathlib.Core.Path.{_≡_, refl, sym, _∙_}
 use mathlib.Core.List.{List, [], _∷_, _++_, append-assoc}
-use Prim.Native.Nat.{ℕ, zero, suc, _+_, _-_, _*_, _/_, _^_, _≤_, _<_}
+use Prim.Native.Nat.{ℕ, zero, suc, _+_, _-_, _*_, _≤_, _<_}
 use native.Mathlib.Omega.{arith}
-use lib.ListN.{length, take, drop, replicate, length-append, length-take, length-drop, length-replicate}
-use lib.Seq.{take-at, drop-at, take-append-le}
-use Rattle.lent.specs.Numbers.{bytes, be}
+use lib.ListN.{length, take, drop, length-append, length-take, length-drop, length-replicate}
+use lib.Seq.{take-at, drop-at}
+use Rattle.lent.specs.Numbers.{bytes}
 use Rattle.lent.specs.Parts.{part}
-use Rattle.lent.proofs.Digits.{length-bytes, be-bytes}
+use Rattle.lent.proofs.Digits.{be-bytes}
 use Rattle.held.specs.Order.{Level}
 use Rattle.held.specs.Bytes.{each}
 use Rattle.held.specs.Forest.{Forest, leaf, fork}
 use Rattle.region.specs.Layout.{levelUnits, rowUnits, unitsF, headBytes, levelBytes, rowBytes, unitBytes}
 use Rattle.held.specs.Ascending.{All}
-use Rattle.region.specs.Forms.{Form, Fits, leaf-fits, fork-fits}
+use Rattle.region.specs.Forms.{Form, Fits, fork-fits}
 use Rattle.region.specs.Decode.{lenOf, ownOf, belowOf, unitsTo, ownPlace, restPlace, decodeTo, decode}
 
 pub length-head : (l : Level) (own below : ℕ) → length (headBytes l own below) ≡ 8

@@ -1,18 +1,17 @@
 -- What a node holds, in a unit: values, and the records of names. Assumes nothing.
 use mathlib.Core.Path.{_≡_, refl}
-use mathlib.Core.Bool.{cond}
-use mathlib.Core.List.{List, [], _∷_, _++_}
+use mathlib.Core.List.{List, _++_}
 use mathlib.Core.Option.{Option, none, some}
 use Prim.Native.Nat.{ℕ, _^_, _<_}
 use lib.ListN.{length, replicate, length-append, length-take, length-replicate}
 use lib.Seq.{take-at}
 use native.Mathlib.Omega.{arith}
-use Rattle.lent.specs.Numbers.{bytes, be}
+use Rattle.lent.specs.Numbers.{bytes}
 use Rattle.lent.specs.Parts.{part}
-use Rattle.lent.proofs.Digits.{length-bytes, be-bytes}
+use Rattle.lent.proofs.Digits.{be-bytes}
 use Rattle.held.specs.Retained.{Stored}
 use Rattle.region.specs.Units.{valueBytes, valueOf, momentBytes, storedBytes, storedOf}
-use Rattle.region.specs.Forms.{Form, whole, Whole}
+use Rattle.region.specs.Forms.{Form, SmallMoment, SmallStored, whole, Whole}
 
 pub value-long : (v : ℕ) → length (valueBytes v) ≡ 16
 unfolding valueBytes bytes
@@ -24,15 +23,6 @@ value-back v h = be-bytes 4 v h
 
 abbrev pub values : Form ℕ
 values = record { write = valueBytes; read = valueOf; Small = λ v. v < 256 ^ 4; long = value-long; back = value-back }
-
--- a moment that fits its 8 bytes
-abbrev pub SmallMoment : Option ℕ → Type 0
-SmallMoment none = Unit {0}
-SmallMoment (some m) = m < 256 ^ 8
-
-pub record SmallStored (s : Stored) : Type 0 where
-  pub handle : s .handle < 256 ^ 4
-  pub moment : SmallMoment (s .moment)
 
 moment-long : (h : ℕ) (m : Option ℕ) → length (bytes 4 h ++ momentBytes m) ≡ 16
 unfolding bytes

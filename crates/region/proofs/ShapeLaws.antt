@@ -1,5 +1,5 @@
 -- The header as the code reads it. Assumes nothing.
-use mathlib.Core.Path.{_≡_, refl, sym, ap, _∙_}
+use mathlib.Core.Path.{_≡_, refl, _∙_}
 use mathlib.Core.List.{List}
 use Prim.Native.Nat.{ℕ, _+_, _*_, _≤_, _<_}
 use native.Mathlib.Omega.{arith}
@@ -8,7 +8,6 @@ use Rattle.lent.specs.Numbers.{be}
 use Rattle.lent.specs.Parts.{part}
 use Rattle.lent.specs.Total.{read}
 use Rattle.lent.proofs.Anywhere.{read-in}
-use Rattle.region.specs.declared.Capacities.{Capacities}
 use Rattle.region.specs.Layout.{unitRoom, neededBytes}
 use Rattle.region.specs.Store.{roomAt}
 use Rattle.region.specs.Shapes.{CapacitiesOf, UnitsOf, NoUnits}

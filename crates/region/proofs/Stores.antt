@@ -1,8 +1,8 @@
 -- When a region is a store: what opening leaves, the two kinds apart, and the units that fit. Assumes nothing.
 use mathlib.Core.Path.{_≡_, refl, sym, ap, subst, _∙_}
 use mathlib.Core.Bool.{Bool, true, false, cond, _||_}
-use mathlib.Core.List.{List, [], _∷_, _++_, map}
-use Prim.Native.Nat.{ℕ, _+_, _*_, _/_, _^_, _≤_, _<_}
+use mathlib.Core.List.{List, [], _∷_}
+use Prim.Native.Nat.{ℕ, _+_, _*_, _/_, _≤_, _<_}
 use native.Mathlib.Omega.{arith}
 use native.Mathlib.Nat.{zero-add}
 use lib.Dec.{eqb}
@@ -11,18 +11,17 @@ use Rattle.lent.specs.Numbers.{bytes, be}
 use Rattle.lent.specs.Parts.{part, patch}
 use Rattle.lent.proofs.Parts.{part-part, part-patch, length-patch}
 use Rattle.lent.proofs.Digits.{be-bytes}
-use Rattle.level.specs.Kinds.{isOnly}
 use Rattle.held.specs.Order.{Level}
 use Rattle.held.specs.Room.{Room, inRange, allLeads, nodesOf, nodeCount, levelCells, cellCount}
-use Rattle.held.specs.Forest.{Forest, leaf, fork, held, under, Rows}
-use Rattle.held.specs.Edit.{Full, weighF, sizeF, cellsF}
+use Rattle.held.specs.Forest.{Forest, leaf, fork, held, Rows, Full}
+use Rattle.held.specs.Edit.{weighF, sizeF, cellsF}
 use Rattle.held.proofs.Bounds.{in-range}
 use Rattle.held.proofs.Counts.{node-count, cell-count}
-use Rattle.region.specs.Layout.{unitRoom, neededBytes, levelUnits, unitsF, unitBytes, marksOf, Used, headerBytes}
+use Rattle.region.specs.Layout.{neededBytes, levelUnits, unitsF, unitBytes, marksOf, Used, headerBytes}
 use Rattle.region.specs.Units.{valueBytes, valueOf, storedBytes, storedOf}
 use Rattle.region.specs.Opening.{nothing}
 use Rattle.region.specs.Decode.{decode}
-use Rattle.region.specs.Store.{roomAt, forestAt, usedBy, WrittenIn, SubscriptionStore, RetainedStore}
+use Rattle.region.specs.Store.{roomAt, forestAt, WrittenIn, SubscriptionStore, RetainedStore}
 use Rattle.region.proofs.Sizes.{length-header}
 use Rattle.region.proofs.Decoded.{decode-none}
 

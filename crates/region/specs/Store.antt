@@ -16,8 +16,7 @@ use Rattle.held.specs.Order.{Filter}
 use Rattle.held.specs.Ascending.{All}
 use Rattle.held.specs.Room.{Room, inRange, nodeCount, cellCount}
 use Rattle.held.specs.Retained.{Stored}
-use Rattle.held.specs.Forest.{Forest, held}
-use Rattle.held.specs.Edit.{WellFormed, WellNamed}
+use Rattle.held.specs.Forest.{Forest, held, WellFormed, WellNamed}
 use Rattle.region.specs.Layout.{unitRoom, neededBytes, unitsF, unitBytes, marksOf, Used, headerBytes}
 use Rattle.region.specs.Units.{valueBytes, valueOf, storedBytes, storedOf}
 use Rattle.region.specs.Decode.{decode}

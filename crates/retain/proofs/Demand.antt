@@ -1,7 +1,7 @@
 -- Demand 3 for retained names, about the calls of this crate: two runs on opened regions, with the same calls for each name in the
 -- same order (a sweep counts for every name) and none refused for room, give the same lookups and pages, byte for byte. `Runs` of
 -- `edit` is a run: each of its steps is what `set` or `remove_expired` promises. Assumes nothing.
-use mathlib.Core.Path.{_≡_, refl, sym, ap, _∙_}
+use mathlib.Core.Path.{_≡_, sym, ap, _∙_}
 use Prim.Native.Nat.{ℕ, _≤_}
 use mathlib.Core.Bool.{true}
 use mathlib.Core.List.{List}
@@ -21,9 +21,9 @@ use Rattle.region.specs.Opening.{nothing}
 use Rattle.region.specs.Units.{storedOf}
 use Rattle.region.specs.Store.{roomAt}
 use Rattle.region.proofs.Stores.{opened-forest, opened-retained}
-use Rattle.edit.specs.Runs.{Runs}
+use Rattle.edit.specs.Runs.{Runs, Empty}
 use Rattle.edit.specs.declared.Listed.{Listed}
-use Rattle.edit.proofs.RunLaws.{Empty, from-empty}
+use Rattle.edit.proofs.RunLaws.{from-empty}
 use Rattle.retain.specs.declared.Paged.{Paged}
 use Rattle.retain.specs.Calls.{heldIn, retainedStore}
 use Rattle.retain.specs.Lookups.{Looks, Pages}

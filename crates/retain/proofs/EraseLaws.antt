@@ -1,7 +1,7 @@
 -- Erasing a record: what each answer rests on. Assumes nothing.
 use mathlib.Core.Path.{_≡_, refl, sym, ap, _∙_}
 use mathlib.Core.Bool.{Bool, true, false, not, true≢false}
-use mathlib.Core.List.{List, [], _∷_, _++_}
+use mathlib.Core.List.{List, []}
 use Prim.Native.Nat.{ℕ, _+_, _-_, _≤_, _<_}
 use native.Mathlib.Omega.{arith}
 use lib.ListN.{length, take, getD}
@@ -11,10 +11,10 @@ use Rattle.level.specs.Levels.{split}
 use Rattle.topic.specs.Rules.{nameRules}
 use Rattle.topic.specs.Answers.{checked}
 use Rattle.topic.specs.declared.Checked.the-variants.{Accepted}
-use Rattle.held.specs.Order.{Filter, sameFilter}
+use Rattle.held.specs.Order.{sameFilter}
 use Rattle.held.specs.Retained.{Stored, Named, hasFilter, eraseHeld, set}
-use Rattle.held.specs.Forest.{Forest, leaf, hit, held, valuesAt}
-use Rattle.held.specs.Edit.{eraseF, cutF, Full}
+use Rattle.held.specs.Forest.{Forest, leaf, held, Full}
+use Rattle.held.specs.Edit.{eraseF, cutF}
 use Rattle.held.proofs.Stores.{null}
 use Rattle.held.proofs.Bounds.{length-keep}
 use Rattle.held.proofs.RoomLaws.{Within}
@@ -31,7 +31,7 @@ use Rattle.change.proofs.EditLaws.{Becomes}
 use Rattle.change.proofs.StoreLaws.{retained-holds}
 use Rattle.edit.specs.declared.Changed.{Changed}
 use Rattle.edit.specs.declared.Changed.the-variants.{Done, Refused}
-use Rattle.edit.specs.Calls.{Step, Does}
+use Rattle.edit.specs.Calls.{Step}
 use Rattle.edit.specs.Taking.{aloneIn, PathTaken, OneLess}
 use Rattle.edit.proofs.KnownPath.{node-is}
 use Rattle.edit.proofs.Taken.{cut-within, alone-own, not-alone, unit-gone, path-gone}

@@ -1,7 +1,7 @@
 -- The answers that need no walk: names that are too deep, nodes that are missing, and how a call takes its payload. Assumes nothing.
 use mathlib.Core.Path.{_≡_, refl, sym, ap, _∙_}
 use mathlib.Core.Bool.{Bool, true, false, not, _||_, true≢false}
-use mathlib.Core.List.{List, [], _∷_, map}
+use mathlib.Core.List.{List, [], _∷_}
 use Prim.Native.Nat.{ℕ, zero, suc, _+_, _≤_, _<_}
 use native.Mathlib.Omega.{arith}
 use lib.ListN.{length}
@@ -18,7 +18,6 @@ use Rattle.held.specs.Ascending.{All}
 use Rattle.held.specs.Room.{roomRules}
 use Rattle.held.specs.Retained.{Stored, Named, hasFilter, setHeld, Call, set, sweep, retained}
 use Rattle.held.specs.History.{accepted, answered}
-use Rattle.held.specs.Forest.{Forest}
 use Rattle.held.proofs.Orders.{filter-order}
 use Rattle.held.proofs.Texts.{name-written}
 use Rattle.held.proofs.Stores.{null}

@@ -8,3 +8,4 @@ pub mod KnownLaws
 pub mod NamesCounted
 pub mod LookLaws
 pub mod Demand
+pub mod Settled

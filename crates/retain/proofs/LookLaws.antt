@@ -14,9 +14,9 @@ use Rattle.topic.specs.Rules.{filterRules}
 use Rattle.topic.specs.Answers.{checked}
 use Rattle.topic.specs.declared.Checked.{Checked}
 use Rattle.topic.specs.declared.Checked.the-variants.{Accepted, Refused as NotAccepted}
-use Rattle.held.specs.Order.{Filter}
-use Rattle.held.specs.Retained.{Stored, Named, lookup, lookupBytes, lookupRules, page, pageBytes, pageRules, more}
-use Rattle.held.specs.Forest.{Forest, hash, held}
+use Rattle.held.specs.Retained.{Stored, lookup, lookupBytes, lookupRules, pageBytes, pageRules}
+use Rattle.held.specs.Forest.{Forest, held}
+use Rattle.held.specs.Walks.{hash}
 use Rattle.region.specs.Units.{storedOf}
 use Rattle.region.specs.Store.{forestAt, RetainedStore}
 use Rattle.region.specs.declared.Shape.{Shape}

@@ -1,7 +1,7 @@
 -- Setting a record: what each answer rests on. Assumes nothing.
-use mathlib.Core.Path.{_≡_, refl, sym, ap, subst, _∙_}
-use mathlib.Core.Bool.{Bool, true, false, not, true≢false}
-use mathlib.Core.List.{List, [], _∷_, _++_}
+use mathlib.Core.Path.{_≡_, refl, sym, ap, _∙_}
+use mathlib.Core.Bool.{true, false, not, true≢false}
+use mathlib.Core.List.{List, [], _∷_}
 use Prim.Native.Nat.{ℕ, _+_, _-_, _*_, _≤_, _<_}
 use native.Mathlib.Omega.{arith}
 use lib.ListN.{length, take, getD}
@@ -17,7 +17,8 @@ use Rattle.topic.specs.declared.Checked.the-variants.{Accepted}
 use Rattle.held.specs.Order.{Filter}
 use Rattle.held.specs.Room.{levelCells}
 use Rattle.held.specs.Retained.{Stored, hasFilter, set}
-use Rattle.held.specs.Forest.{Forest, hit, valuesAt}
+use Rattle.held.specs.Forest.{Forest}
+use Rattle.held.specs.Walks.{hit, valuesAt}
 use Rattle.held.specs.Edit.{setF, missing, weigh}
 use Rattle.held.proofs.Stores.{null}
 use Rattle.held.proofs.ByTexts.{set-text}
@@ -25,7 +26,8 @@ use Rattle.region.specs.Layout.{levelUnits, unitsF}
 use Rattle.region.specs.Units.{storedBytes, storedOf}
 use Rattle.region.specs.Store.{forestAt, RetainedStore}
 use Rattle.region.specs.Shapes.{UnitsOf}
-use Rattle.region.proofs.Instances.{records, SmallStored, stored-long}
+use Rattle.region.specs.Forms.{SmallStored}
+use Rattle.region.proofs.Instances.{records, stored-long}
 use Rattle.forest.specs.Places.{unitAt}
 use Rattle.seek.specs.declared.Path.{Path}
 use Rattle.seek.specs.PathFound.{PathFound}

@@ -2,15 +2,15 @@
 use mathlib.Core.Path.{_≡_, refl, sym, ap, _∙_}
 use mathlib.Core.Bool.{Bool, true, false, true≢false}
 use mathlib.Core.List.{List, [], _∷_}
-use Prim.Native.Nat.{ℕ, suc, _+_, _-_, _/_, _≤_, _<_}
+use Prim.Native.Nat.{ℕ, _+_, _-_, _/_, _≤_, _<_}
 use native.Mathlib.Omega.{arith}
 use borrow.Author.Tests.{lt-ltb, le-ltb}
 use lib.Dec.{ltb}
 use lib.ListN.{length, getD}
 use Rattle.level.specs.Levels.{split}
 use Rattle.held.specs.Retained.{Stored}
-use Rattle.held.specs.Forest.{Forest, hit, valuesAt}
-use Rattle.held.specs.Edit.{Single}
+use Rattle.held.specs.Forest.{Forest, Single}
+use Rattle.held.specs.Walks.{hit, valuesAt}
 use Rattle.region.specs.Layout.{levelUnits}
 use Rattle.region.specs.Units.{storedOf}
 use Rattle.region.specs.Store.{forestAt, RetainedStore}

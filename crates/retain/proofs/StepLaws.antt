@@ -1,7 +1,7 @@
 -- What shows that setting, erasing and sweeping did what they should. Assumes nothing.
-use mathlib.Core.Path.{_≡_, refl, sym, ap, _∙_}
+use mathlib.Core.Path.{_≡_, refl, ap, _∙_}
 use mathlib.Core.Bool.{Bool, true, false, cond, not, _||_, true≢false}
-use mathlib.Core.List.{List, [], _∷_, _++_}
+use mathlib.Core.List.{List, [], _∷_}
 use Prim.Native.Nat.{ℕ, _≤_}
 use lib.ListN.{length}
 use borrow.Author.Tests.{le-ltb}
@@ -11,12 +11,12 @@ use Rattle.topic.specs.Rules.{Rule, nameRules}
 use Rattle.topic.specs.Answers.{checked}
 use Rattle.topic.specs.declared.Checked.the-variants.{Accepted, Refused as NotAccepted}
 use Rattle.held.specs.Order.{Filter, sameFilter, filterLt}
-use Rattle.held.specs.Ascending.{All, put, keep}
+use Rattle.held.specs.Ascending.{All}
 use Rattle.held.specs.Room.{roomRules, depthRule}
 use Rattle.held.specs.History.{verdict}
-use Rattle.held.specs.Retained.{Stored, Named, hasFilter, setHeld, eraseHeld, Call, set, sweep, retained}
-use Rattle.held.specs.Forest.{Forest, held}
-use Rattle.held.specs.Edit.{setF, eraseF, WellNamed}
+use Rattle.held.specs.Retained.{Stored, Named, hasFilter, setHeld, eraseHeld, Call, set, retained}
+use Rattle.held.specs.Forest.{Forest, held, WellNamed}
+use Rattle.held.specs.Edit.{setF, eraseF}
 use Rattle.held.proofs.Entries.{all-put, all-keep}
 use Rattle.held.proofs.ByTexts.{set-text, erase-text}
 use Rattle.held.proofs.RoomLaws.{held-accepted}

@@ -1,8 +1,8 @@
 -- A store of retained names, and the path of a name in it. Assumes nothing.
-use mathlib.Core.Path.{_≡_, refl, sym, ap, _∙_}
-use mathlib.Core.Bool.{Bool, true, false, not}
+use mathlib.Core.Path.{_≡_, ap, _∙_}
+use mathlib.Core.Bool.{false, not}
 use mathlib.Core.List.{List, [], _∷_}
-use Prim.Native.Nat.{ℕ, suc, _+_, _≤_, _<_}
+use Prim.Native.Nat.{ℕ, suc, _+_, _≤_}
 use native.Mathlib.Omega.{arith}
 use lib.ListN.{length}
 use Rattle.level.specs.Levels.{split}
@@ -10,12 +10,12 @@ use Rattle.level.specs.Places.{first}
 use Rattle.level.proofs.Split.{split-cons, after}
 use Rattle.topic.specs.Answers.{checked}
 use Rattle.topic.specs.declared.Checked.the-variants.{Accepted}
-use Rattle.held.specs.Order.{Filter}
 use Rattle.held.specs.Room.{levelCells, fullRules, roomRules, depthRule}
 use Rattle.held.specs.Retained.{Stored, hasFilter, setHeld}
-use Rattle.held.specs.Forest.{Forest, hit, held, valuesAt}
-use Rattle.held.specs.History.{accepted}
+use Rattle.held.specs.Forest.{Forest, held}
+use Rattle.held.specs.Walks.{hit, valuesAt}
 use Rattle.held.specs.Edit.{setF, sizeF, cellsF, weigh, missing}
+use Rattle.held.specs.History.{accepted}
 use Rattle.held.proofs.Stores.{null}
 use Rattle.held.proofs.Refusals.{rules-set}
 use Rattle.held.proofs.RoomLaws.{Within, room-within}

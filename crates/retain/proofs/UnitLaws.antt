@@ -1,15 +1,13 @@
 -- The unit of a record, as it is put together. Assumes nothing.
-use mathlib.Core.Path.{_≡_, refl, sym, ap, _∙_}
-use mathlib.Core.List.{List, [], _∷_, _++_}
-use mathlib.Core.Option.{Option, none, some}
+use mathlib.Core.Path.{_≡_, refl, ap, _∙_}
+use mathlib.Core.List.{List}
 use Prim.Native.Nat.{ℕ, _^_, _<_}
-use lib.ListN.{length, replicate, set}
+use lib.ListN.{replicate, set}
 use Rattle.lent.specs.Numbers.{bytes}
 use Rattle.lent.specs.Parts.{patch}
 use Rattle.lent.specs.Total.{write}
-use Rattle.held.specs.Retained.{Stored}
-use Rattle.region.specs.Units.{storedBytes, storedOf}
-use Rattle.region.proofs.Instances.{SmallStored, stored-back}
+use Rattle.region.specs.Units.{storedBytes}
+use Rattle.region.proofs.Instances.{stored-back}
 use Rattle.retain.specs.declared.Moment.{Moment}
 use Rattle.retain.specs.declared.Moment.the-variants.{Never, At}
 use Rattle.retain.specs.Calls.{storedAs}

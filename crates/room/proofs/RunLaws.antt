@@ -1,7 +1,7 @@
 -- A run of new nodes: row after row, and mark after mark; and that it is what a chain is written down as. Assumes nothing.
 use mathlib.Core.Path.{_≡_, refl, sym, ap, _∙_}
 use mathlib.Core.Bool.{Bool, true, false, cond, _||_}
-use mathlib.Core.List.{List, [], _∷_, _++_, append-assoc, append-nil}
+use mathlib.Core.List.{List, [], _∷_, _++_, append-assoc}
 use Prim.Native.Nat.{ℕ, suc, _+_, _-_, _*_, _/_, _≤_, _<_, max}
 use native.Mathlib.Omega.{arith}
 use native.Mathlib.Numerals.{add-one}
@@ -10,7 +10,6 @@ use Rattle.lent.specs.Numbers.{bytes}
 use Rattle.lent.specs.Parts.{patch}
 use Rattle.lent.specs.Total.{write}
 use Rattle.lent.proofs.Parts.{length-patch, patch-append}
-use Rattle.lent.proofs.Turns.{patch-none}
 use Rattle.lent.proofs.Digits.{length-bytes}
 use Rattle.level.specs.Kinds.{isOnly}
 use Rattle.level.specs.Places.{first, levelsAt, endOf}

@@ -1,8 +1,8 @@
 -- The turns of the search for the first node that goes. Assumes nothing.
 use mathlib.Core.Path.{_≡_, refl, sym, ap, _∙_}
-use mathlib.Core.Bool.{Bool, true, false, not, _&&_, true≢false}
+use mathlib.Core.Bool.{Bool, true, false, not}
 use mathlib.Core.List.{List, [], _∷_}
-use Prim.Native.Nat.{ℕ, zero, suc, _+_, _-_, _*_, _≤_, _<_}
+use Prim.Native.Nat.{ℕ, zero, suc, _+_, _-_, _≤_, _<_}
 use native.Mathlib.Omega.{arith}
 use native.Mathlib.Numerals.{add-one}
 use lib.Dec.{eqb}
@@ -10,7 +10,7 @@ use lib.ListN.{length, take, drop, getD, length-take, drop-of-length-le}
 use lib.Seq.{drop-cons, getD-take}
 use borrow.Author.Tests.{eq-eqb, ne-eqb, not-true, not-false}
 use Rattle.forest.specs.declared.Row.{Row}
-use Rattle.forest.specs.Places.{ownAt, rowEnd, kidsEnd, RowAt}
+use Rattle.forest.specs.Places.{RowAt}
 use Rattle.room.specs.Changes.{Under}
 use Rattle.room.specs.Stay.{loneAt, above, staying}
 use Rattle.room.proofs.BelowLaws.{node-below}

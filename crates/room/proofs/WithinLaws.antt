@@ -1,19 +1,19 @@
 -- Whatever the bytes of a region are, a change writes nothing behind its units. Assumes nothing.
-use mathlib.Core.Path.{_≡_, refl, sym, ap, _∙_}
+use mathlib.Core.Path.{_≡_}
 use mathlib.Core.List.{List, [], _∷_}
 use Prim.Native.Nat.{ℕ, _+_, _-_, _*_, _≤_, _<_}
 use native.Mathlib.Omega.{arith}
 use lib.ListN.{length}
 use Rattle.lent.specs.Numbers.{bytes}
-use Rattle.lent.specs.Parts.{part, patch, Framed}
-use Rattle.lent.specs.Total.{read, opened, closed}
+use Rattle.lent.specs.Parts.{part, patch}
+use Rattle.lent.specs.Total.{Framed, read, opened, closed}
 use Rattle.lent.proofs.Parts.{length-part, framed-patch, framed-same, framed-trans, framed-wider}
 use Rattle.lent.proofs.Anywhere.{write-framed, open-in, close-in}
 use Rattle.lent.proofs.Digits.{length-bytes}
 use Rattle.held.specs.Order.{Filter}
 use Rattle.forest.specs.Places.{unitAt}
 use Rattle.room.specs.declared.Load.{Load}
-use Rattle.room.specs.Runs.{runUnits, runBytes, runMarks, WantedFor}
+use Rattle.room.specs.Runs.{runBytes, runMarks, WantedFor}
 use Rattle.room.specs.Changes.{moved, counted, belows, countsMoved, noLoad, oneLoad, madeRun, madeChain, between, putUnit, madeUnit, takenRun, takenChain, cutUnit, takenUnit, Under, none-under, more-under}
 use Rattle.room.proofs.RunLaws.{length-run, length-run-marks}
 

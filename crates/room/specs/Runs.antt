@@ -1,7 +1,7 @@
 -- FOR THE CODE. The run of units that new nodes for some levels take, the last with one unit of its own, and its marks.
 -- `run-bytes` and `run-marks` of proofs/RunLaws.antt: it is what a chain of new nodes is written down as. Assumes nothing.
 use mathlib.Core.Path.{_≡_}
-use Prim.Native.Nat.{ℕ, _+_, _-_, _*_, _≤_}
+use Prim.Native.Nat.{ℕ, _+_, _-_}
 use mathlib.Core.List.{List, [], _∷_, _++_}
 use lib.ListN.{length, replicate}
 use Rattle.held.specs.Order.{Filter}

@@ -6,7 +6,8 @@ use Prim.Native.Nat.{ℕ, _+_, _-_}
 use native.Mathlib.Nat.{zero-add, add-zero}
 use native.Mathlib.Omega.{arith}
 use Rattle.held.specs.Order.{Level, levelLt}
-use Rattle.held.specs.Forest.{Forest, leaf, fork, kid, Over, Rows}
+use Rattle.held.specs.Forest.{Forest, leaf, fork, Over, Rows}
+use Rattle.held.specs.Walks.{kid}
 use Rattle.held.proofs.Orders.{asym, eq-higher, level-order}
 use Rattle.held.proofs.Walks.{kid-over}
 use Rattle.region.specs.Layout.{rowUnits, unitsF, unitBytes, marksOf}

@@ -12,7 +12,8 @@ use Rattle.level.specs.Levels.{split}
 use Rattle.level.specs.Places.{levelsAt, endOf}
 use Rattle.level.proofs.Split.{levels-cons, levels-none, end-within, part-first}
 use Rattle.held.specs.Order.{Level, Filter}
-use Rattle.held.specs.Forest.{Forest, miss, hit, kid}
+use Rattle.held.specs.Forest.{Forest}
+use Rattle.held.specs.Walks.{miss, hit, kid}
 use Rattle.held.specs.Edit.{missing}
 use Rattle.region.specs.Layout.{rowUnits}
 use Rattle.forest.specs.Stands.{rawIn, RawStands}

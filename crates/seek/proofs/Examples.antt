@@ -12,7 +12,8 @@ use Rattle.lent.specs.Parts.{part}
 use Rattle.level.specs.Levels.{split}
 use Rattle.topic.specs.Rules.{ascii}
 use Rattle.held.specs.Order.{Filter}
-use Rattle.held.specs.Forest.{Forest, leaf, fork, kid, Rows}
+use Rattle.held.specs.Forest.{Forest, leaf, fork, Rows}
+use Rattle.held.specs.Walks.{kid}
 use Rattle.held.specs.Edit.{missing}
 use Rattle.region.specs.Layout.{unitsF, unitBytes, marksOf}
 use Rattle.region.specs.Forms.{Form, Fits}

@@ -6,7 +6,8 @@ use Prim.Native.Nat.{ℕ, _+_, _-_, _≤_}
 use native.Mathlib.Omega.{arith}
 use Rattle.level.specs.Kinds.{same}
 use Rattle.held.specs.Order.{Level}
-use Rattle.held.specs.Forest.{Forest, leaf, fork, Hit, miss, hit, kid, Rows}
+use Rattle.held.specs.Forest.{Forest, leaf, fork, Rows}
+use Rattle.held.specs.Walks.{Hit, miss, hit, kid}
 use Rattle.held.proofs.Orders.{level-order}
 use Rattle.region.specs.Layout.{rowUnits, unitsF}
 use Rattle.region.specs.Forms.{Form, whole, Whole}

@@ -7,7 +7,8 @@ use Prim.Native.Nat.{ℕ, _+_, _-_, _≤_, _<_, max}
 use native.Mathlib.Omega.{arith}
 use Rattle.lent.proofs.Anywhere.{lt-or-ge}
 use Rattle.held.specs.Order.{Level, levelLt}
-use Rattle.held.specs.Forest.{Forest, leaf, fork, kid}
+use Rattle.held.specs.Forest.{Forest, leaf, fork}
+use Rattle.held.specs.Walks.{kid}
 use Rattle.region.specs.Layout.{unitsF}
 use Rattle.region.specs.Forms.{whole, Whole}
 use Rattle.region.proofs.Instances.{wholes}

@@ -1,12 +1,11 @@
 -- What a node holds stands unit by unit behind its level, and its row ends behind that. Assumes nothing.
-use mathlib.Core.Path.{_≡_, sym, ap, _∙_}
+use mathlib.Core.Path.{_≡_, sym, _∙_}
 use mathlib.Core.List.{List, [], _∷_, _++_, append-assoc}
 use Prim.Native.Nat.{ℕ, zero, suc, _+_, _-_, _*_, _<_}
 use native.Mathlib.Omega.{arith}
 use lib.ListN.{length, getD, length-append}
 use lib.Seq.{take-at, drop-append-add}
 use Rattle.lent.specs.Parts.{part}
-use Rattle.lent.proofs.Parts.{part-part}
 use Rattle.held.specs.Order.{Level}
 use Rattle.held.specs.Bytes.{each}
 use Rattle.held.specs.Forest.{Forest, fork}
@@ -41,10 +40,3 @@ module _ {X : Type 0} (u : Form X) where
         let h : length (headBytes t (length v) (unitsF k) ++ levelBytes t) ≡ levelUnits t * 16 = rw (length-append, length-head) (length-level t) in
         let p : unitAt base lo + levelUnits t * 16 ≡ unitAt base (lo + levelUnits t) = omega arith in
         rw p at (back-part (unitAt base lo) (rowUnits t v * 16) (levelUnits t * 16) (length v * 16) (headBytes t (length v) (unitsF k) ++ levelBytes t) (each (u .write) v) s row-there h (omega arith))
-
-    -- the j-th of what it holds
-    pub stands-unit : (j : ℕ) (x : X) → j < length v → part (unitAt base (lo + levelUnits t + j)) 16 s ≡ u .write (getD v j x)
-    stands-unit j x h =
-        let p : unitAt base (lo + levelUnits t) + j * 16 ≡ unitAt base (lo + levelUnits t + j) = omega arith in
-        rw p at (sym (part-part (j * 16) 16 (unitAt base (lo + levelUnits t)) (length v * 16) s (omega arith)))
-        ∙ ap (part (j * 16) 16) stands-holds ∙ each-at v j x h

@@ -11,7 +11,8 @@ use Rattle.level.specs.Kinds.{same}
 use Rattle.held.specs.Order.{Level, Filter}
 use Rattle.held.specs.Ascending.{All}
 use Rattle.held.specs.Bytes.{each}
-use Rattle.held.specs.Forest.{Forest, leaf, fork, Hit, miss, hit, kid, Over, Rows}
+use Rattle.held.specs.Forest.{Forest, leaf, fork, Over, Rows}
+use Rattle.held.specs.Walks.{Hit, miss, hit, kid}
 use Rattle.held.specs.Edit.{kidsOr, missing}
 use Rattle.region.specs.Layout.{unitRoom, rowUnits, unitsF, rowBytes, unitBytes, marksOf}
 use Rattle.region.specs.Forms.{Form, Fits, leaf-fits, fork-fits, whole, Whole}

@@ -5,7 +5,8 @@ use mathlib.Core.List.{List}
 use Prim.Native.Nat.{ℕ, _+_, _-_, _≤_, _<_}
 use native.Mathlib.Omega.{arith}
 use Rattle.held.specs.Order.{Level, levelLt}
-use Rattle.held.specs.Forest.{Forest, leaf, fork, kid}
+use Rattle.held.specs.Forest.{Forest, leaf, fork}
+use Rattle.held.specs.Walks.{kid}
 use Rattle.held.proofs.Orders.{level-order}
 use Rattle.held.proofs.Edits.{over-mono}
 use Rattle.region.specs.Layout.{rowUnits, unitsF}

@@ -1,7 +1,8 @@
 -- FOR THE CODE. The child of a row with a level, by its units: where it stands, or where it would. Assumes nothing.
 use Prim.Native.Nat.{ℕ, _+_, _≤_, _<_, max}
 use Rattle.held.specs.Order.{Level}
-use Rattle.held.specs.Forest.{Forest, kid}
+use Rattle.held.specs.Forest.{Forest}
+use Rattle.held.specs.Walks.{kid}
 use Rattle.region.specs.Layout.{rowUnits, unitsF}
 use Rattle.forest.specs.Paths.{seekAt, onHit}
 use Rattle.seek.specs.declared.Child.{Child}

@@ -15,10 +15,10 @@ use Rattle.held.specs.Edit.{weighF, sizeF, cellsF}
 use Rattle.region.specs.Layout.{rowUnits, unitsF, rowBytes, unitBytes, marksOf}
 use Rattle.region.specs.Units.{storedBytes}
 use Rattle.forest.specs.Places.{unitAt}
-use Rattle.change.proofs.HoldsLaws.{length-held}
 use Rattle.sweep.specs.declared.Kept.{Kept}
 use Rattle.sweep.specs.Touched.{Touched}
 use Rattle.sweep.specs.Swept.{Grown}
+use Rattle.held.proofs.Lengths.{length-held}
 
 -- two parts, one behind the other
 pub part-joined : (p a b w : ℕ) (x y s : List ℕ) → a + b ≡ w → part p a s ≡ x → part (p + a) b s ≡ y → part p w s ≡ x ++ y

@@ -14,8 +14,8 @@ use Rattle.lent.proofs.Digits.{length-bytes}
 use Rattle.held.specs.Order.{Level}
 use Rattle.held.specs.Bytes.{each}
 use Rattle.held.specs.Ascending.{keep}
-use Rattle.held.specs.Forest.{Forest, leaf, fork}
-use Rattle.held.specs.Edit.{pruned, Single}
+use Rattle.held.specs.Forest.{Forest, leaf, fork, Single}
+use Rattle.held.specs.Edit.{pruned}
 use Rattle.region.specs.Layout.{levelUnits, rowUnits, unitsF, headBytes, levelBytes, rowBytes, unitBytes}
 use Rattle.region.specs.Forms.{Form}
 use Rattle.region.proofs.Decoded.{length-head, length-level, length-each, length-row}

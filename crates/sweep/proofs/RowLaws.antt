@@ -1,19 +1,16 @@
 -- One row of a sweep, in the words of the code: whether its record stays, its units moved down, its head put right. Assumes nothing.
 use mathlib.Core.Path.{_≡_, sym, ap, _∙_}
-use mathlib.Core.Bool.{true, false}
 use mathlib.Core.List.{List, _∷_, _++_}
 use Prim.Native.Nat.{ℕ, _+_, _-_, _*_, _/_, _≤_, _<_, min}
 use native.Mathlib.Omega.{arith}
-use lib.Dec.{eqb, leb}
-use lib.ListN.{length, drop, getD, replicate, length-replicate}
-use lib.Seq.{getD-drop, getD-take}
-use borrow.Author.Tests.{eq-eqb, ne-eqb, le-leb, lt-leb}
-use Rattle.lent.specs.Numbers.{bytes, be}
+use lib.ListN.{length, replicate, length-replicate}
+use borrow.Author.Tests.{eq-eqb, ne-eqb}
+use Rattle.lent.specs.Numbers.{bytes}
 use Rattle.lent.specs.Parts.{part, patch}
-use Rattle.lent.specs.Total.{read, write, closed}
-use Rattle.lent.proofs.Parts.{part-part, length-part, length-patch}
+use Rattle.lent.specs.Total.{write, closed}
+use Rattle.lent.proofs.Parts.{length-part, length-patch}
 use Rattle.lent.proofs.Digits.{length-bytes}
-use Rattle.lent.proofs.Anywhere.{read-in, close-in}
+use Rattle.lent.proofs.Anywhere.{close-in}
 use Rattle.held.specs.Room.{levelCells}
 use Rattle.region.specs.Units.{storedOf}
 use Rattle.forest.specs.declared.Row.{Row}
@@ -23,37 +20,18 @@ use Rattle.room.proofs.RunLaws.{row-marked}
 use Rattle.sweep.specs.declared.Kept.{Kept}
 use Rattle.sweep.specs.declared.Stay.{Stay}
 use Rattle.sweep.specs.Moved.{StaysAt, rowMoved, Begun, ended}
+use Rattle.lookup.specs.declared.Life.{Life}
+use Rattle.lookup.specs.declared.Life.the-variants.{Over, Left}
+use Rattle.lookup.specs.Lives.{lifeOf}
+use Rattle.lookup.proofs.OwnLaws.{over-is, left-is}
 
--- the record of a unit
-module _ (clock base : ℕ) (s : List ℕ) (at end : ℕ) (some : at < end) (within : unitAt base end ≤ length s) where
-  flag : getD (part (unitAt base at) 16 s) 4 0 ≡ getD s (base + at * 16 + 4) 0
-  unfolding part
-  flag = getD-take 16 (drop (unitAt base at) s) 4 0 (omega arith) ∙ getD-drop (unitAt base at) s 4 0
+-- the record of a unit, by the time that it has left
+module _ (clock base : ℕ) (s : List ℕ) (at end : ℕ) (some : at < end) {life : Life} (lives : life ≡ lifeOf clock (storedOf (part (unitAt base at) 16 s))) where
+  pub stays-not : life ≡ Over → StaysAt clock base s at end 0
+  stays-not is = record { within = omega arith; one = omega arith; stays = λ q. rw (over-is clock (storedOf (part (unitAt base at) 16 s)) (sym is ∙ lives)) }
 
-  moment-read : read 8 (base + at * 16 + 8) s ≡ be (part 8 8 (part (unitAt base at) 16 s))
-  moment-read = read-in 8 (base + at * 16 + 8) s (omega arith) ∙ ap be (sym (part-part 8 8 (unitAt base at) 16 s (omega arith)))
-
-  pub stays-lasting : (getD s (base + at * 16 + 4) 0 ≡ 1 → ⊥) → StaysAt clock base s at end 1
-  unfolding storedOf
-  stays-lasting h =
-      let e : eqb (getD (part (unitAt base at) 16 s) 4 0) 1 ≡ false = rw flag (ne-eqb (getD s (base + at * 16 + 4) 0) 1 h) in
-      record { within = omega arith; one = omega arith; stays = λ q. rw e }
-
-  module _ (is : getD s (base + at * 16 + 4) 0 ≡ 1) {m : ℕ} (r : m ≡ read 8 (base + at * 16 + 8) s) where
-    set : eqb (getD (part (unitAt base at) 16 s) 4 0) 1 ≡ true
-    set = rw flag (eq-eqb (getD s (base + at * 16 + 4) 0) 1 is)
-
-    pub stays-over : m ≤ clock → StaysAt clock base s at end 0
-    unfolding storedOf
-    stays-over h =
-        let e : leb (be (part 8 8 (part (unitAt base at) 16 s))) clock ≡ true = le-leb (be (part 8 8 (part (unitAt base at) 16 s))) clock (omega (arith, r, moment-read)) in
-        record { within = omega arith; one = omega arith; stays = λ q. rw (set, e) }
-
-    pub stays-yet : clock < m → StaysAt clock base s at end 1
-    unfolding storedOf
-    stays-yet h =
-        let e : leb (be (part 8 8 (part (unitAt base at) 16 s))) clock ≡ false = lt-leb (be (part 8 8 (part (unitAt base at) 16 s))) clock (omega (arith, r, moment-read)) in
-        record { within = omega arith; one = omega arith; stays = λ q. rw (set, e) }
+  pub stays-yet : (m : ℕ) → life ≡ Left m → StaysAt clock base s at end 1
+  stays-yet m is = record { within = omega arith; one = omega arith; stays = λ q. rw (left-is clock m (storedOf (part (unitAt base at) 16 s)) (sym is ∙ lives) .0) }
 
 -- the level of a row
 module _ (base i n : ℕ) (s : List ℕ) (some : i < n) (within : unitAt base n ≤ length s) where

@@ -6,8 +6,8 @@ use Prim.Native.Nat.{ℕ, _+_, _-_, _*_, _≤_}
 use native.Mathlib.Omega.{arith}
 use lib.ListN.{length, drop, length-append}
 use Rattle.lent.specs.Numbers.{bytes, be}
-use Rattle.lent.specs.Parts.{part, Framed}
-use Rattle.lent.specs.Total.{read, write}
+use Rattle.lent.specs.Parts.{part}
+use Rattle.lent.specs.Total.{Framed, read, write}
 use Rattle.lent.proofs.Parts.{framed-trans, framed-wider, framed-before, framed-after}
 use Rattle.lent.proofs.Digits.{length-bytes}
 use Rattle.lent.proofs.Anywhere.{write-framed}
@@ -15,8 +15,8 @@ use Rattle.held.specs.Order.{Filter}
 use Rattle.held.specs.Ascending.{keep}
 use Rattle.held.specs.Room.{Room, inRange, nodeCount, cellCount, levelCells}
 use Rattle.held.specs.Retained.{Stored, unexpired}
-use Rattle.held.specs.Forest.{Forest, held}
-use Rattle.held.specs.Edit.{Single, Owns, WellNamed, sweepF}
+use Rattle.held.specs.Forest.{Forest, held, Single, Owns, WellNamed}
+use Rattle.held.specs.Edit.{sweepF}
 use Rattle.held.proofs.Counts.{node-count, cell-count}
 use Rattle.held.proofs.Lengths.{length-sweep}
 use Rattle.held.proofs.Names.{sweep-well, sweep-held}

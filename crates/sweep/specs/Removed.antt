@@ -5,13 +5,13 @@ use mathlib.Core.Bool.{not}
 use mathlib.Core.List.{List}
 use lib.ListN.{length}
 use Rattle.lent.specs.Numbers.{bytes, be}
-use Rattle.lent.specs.Parts.{part, Framed}
-use Rattle.lent.specs.Total.{write}
+use Rattle.lent.specs.Parts.{part}
+use Rattle.lent.specs.Total.{Framed, write}
 use Rattle.held.specs.Order.{Filter}
 use Rattle.held.specs.Ascending.{keep}
 use Rattle.held.specs.Retained.{Stored, unexpired, sweepHeld}
-use Rattle.held.specs.Forest.{Forest, held}
-use Rattle.held.specs.Edit.{Single, Owns, sweepF}
+use Rattle.held.specs.Forest.{Forest, held, Single, Owns}
+use Rattle.held.specs.Edit.{sweepF}
 use Rattle.region.specs.Layout.{unitRoom, neededBytes}
 use Rattle.region.specs.Units.{storedOf}
 use Rattle.region.specs.Store.{roomAt, forestAt, RetainedStore}

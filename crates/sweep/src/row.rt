@@ -8,6 +8,7 @@ ghost use Rattle.lent.specs.Parts.{patch};
 ghost use Rattle.held.specs.Room.{levelCells};
 ghost use Rattle.forest.specs.Places.{unitAt, lenAt, levelIn};
 ghost use Rattle.sweep.specs.Moved.{StaysAt, rowMoved};
+use lookup::Life;
 
 // How many records stay of the one that stands in unit `at`, if that is before unit `end`.
 pub fn record_stays(s: &[u8], base: usize, at: usize, end: usize, clock: u64) -> usize
@@ -17,14 +18,10 @@ pub fn record_stays(s: &[u8], base: usize, at: usize, end: usize, clock: u64) ->
     if end <= at {
         return 0;
     }
-    let place = base + at * 16;
-    if s[place + 4] != 1 {
-        return 1;
-    }
-    let moment = lent::get64(s, place + 8);
-    if moment <= clock {
+    let life = lookup::life_at(s, base, at, clock);
+    let Life::Left(_) = life else {
         return 0;
-    }
+    };
     1
 }
 

@@ -1,7 +1,7 @@
 -- What parsing and the level calls answer, from their tests in their order. Assumes nothing.
 use mathlib.Core.Path.{_≡_, refl, sym, ap, _∙_}
 use mathlib.Core.Bool.{Bool, true, false, not, cond}
-use mathlib.Core.List.{List, [], _∷_}
+use mathlib.Core.List.{List, []}
 use Prim.Native.Nat.{ℕ, _≤_, _<_}
 use native.Mathlib.Omega.{arith}
 use lib.Dec.{ltb}
@@ -21,7 +21,7 @@ use Rattle.topic.specs.declared.Checked.the-variants.{Accepted, Refused}
 use Rattle.topic.specs.declared.Parsed.{Parsed}
 use Rattle.topic.specs.declared.Parsed.the-variants.{Levels, Refused as ParseRefused}
 use Rattle.topic.specs.Rules.{parseRules, levelRules}
-use Rattle.topic.specs.Answers.{checked, levelsOr, parsed, ifParsed, headKind, kindAt, partAt, placeAt}
+use Rattle.topic.specs.Answers.{checked, levelsOr, parsed, kindAt, partAt, placeAt}
 
 -- parsing
 module _ (s : List ℕ) {u : Bool} (eu : u ≡ isUtf8 s) where

@@ -3,3 +3,4 @@ pub mod RuleLaws
 pub mod LevelLaws
 pub mod ThirteenPairs
 pub mod Texts
+pub mod Settled

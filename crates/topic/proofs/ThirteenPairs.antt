@@ -1,6 +1,5 @@
 -- The thirteen pairs of document 01, proved together as one statement, which antt computes. Assumes nothing.
 use mathlib.Core.Path.{_≡_, refl}
-use mathlib.Core.Bool.{Bool}
 use mathlib.Core.List.{map}
 use Rattle.level.specs.Levels.{split}
 use Rattle.topic.specs.Match.{match47}

@@ -1,6 +1,6 @@
 -- TO BELIEVE. What the calls answer, for every text (document 01, 'Text rules' and 'Refusal numbers'). Assumes nothing.
 use Prim.Native.Nat.{ℕ}
-use mathlib.Core.Bool.{Bool, cond, _&&_}
+use mathlib.Core.Bool.{cond}
 use mathlib.Core.List.{List, [], _∷_}
 use lib.Dec.{ltb}
 use lib.ListN.{length, drop, getD}
@@ -30,7 +30,7 @@ levelsOr (Refused r) n = ParseRefused r
 abbrev pub parsed : List ℕ → Parsed
 parsed s = levelsOr (checked (parseRules s)) (length (split s))
 
--- "For k past the end, or a text refused, the kind is none and the part is empty."
+-- "For k past the end, or a text refused, the kind is none and the part is empty"
 abbrev pub ifParsed : {A : Type 0} → Parsed → A → A → A
 ifParsed (Levels n) a b = a
 ifParsed (ParseRefused r) a b = b

@@ -3,3 +3,4 @@ pub mod Rules
 pub mod Answers
 pub mod Pairs
 pub mod Faults
+pub mod Settled

@@ -63,7 +63,7 @@ ascii (c ∷ˢ s) = code c ∷ ascii s
 abbrev pub starts : List ℕ → List ℕ → Bool
 starts p s = same p (take (length p) s)
 
--- "After $share/ stands a group, up to the next /, .. then that /, then a valid filter."
+-- "after $share/ stands a group, up to the next /, .. then that /, then a valid filter."
 abbrev pub groupOf : List ℕ → List ℕ
 groupOf rest = getD (split rest) 0 []
 

@@ -1,11 +1,10 @@
 -- Asking a store about a name: the walk over its forest answers for what it holds. Assumes nothing.
-use mathlib.Core.Path.{_≡_, refl, sym, ap, subst, _∙_}
+use mathlib.Core.Path.{_≡_, refl, sym, ap, _∙_}
 use mathlib.Core.Bool.{Bool, true, false, not}
-use mathlib.Core.List.{List, [], _∷_, _++_}
-use Prim.Native.Nat.{ℕ, _+_, _^_, _≤_, _<_}
+use mathlib.Core.List.{List, [], _∷_}
+use Prim.Native.Nat.{ℕ, _^_, _≤_, _<_}
 use native.Mathlib.Omega.{arith}
 use native.Mathlib.Nat.{le-trans}
-use lib.Dec.{ltb}
 use lib.ListN.{length}
 use Rattle.refusal.specs.declared.Refusal.{Refusal}
 use Rattle.refusal.specs.declared.Refusal.the-variants.{NotAStore, ShortRoom}
@@ -20,7 +19,6 @@ use Rattle.topic.specs.declared.Checked.the-variants.{Accepted, Refused as NotA
 use Rattle.topic.specs.declared.Matched.{Matched}
 use Rattle.topic.specs.declared.Matched.the-variants.{Yes, No, Refused as MatchRefused}
 use Rattle.held.specs.Order.{Filter}
-use Rattle.held.specs.Ascending.{All}
 use Rattle.held.specs.History.{accepted}
 use Rattle.held.specs.Subscriptions.{listing, isMatch, listingBytes, listingRules}
 use Rattle.held.specs.Forest.{Forest, held}

@@ -1,7 +1,7 @@
 -- Inserting a value: what each answer rests on. Assumes nothing.
-use mathlib.Core.Path.{_≡_, refl, sym, ap, subst, _∙_}
-use mathlib.Core.Bool.{Bool, true, false, not, true≢false}
-use mathlib.Core.List.{List, [], _∷_, _++_}
+use mathlib.Core.Path.{_≡_, refl, sym, ap, _∙_}
+use mathlib.Core.Bool.{true, false, not, true≢false}
+use mathlib.Core.List.{List, []}
 use Prim.Native.Nat.{ℕ, _+_, _-_, _^_, _≤_, _<_}
 use native.Mathlib.Omega.{arith}
 use lib.Dec.{eqb}
@@ -17,7 +17,8 @@ use Rattle.held.specs.Ascending.{member}
 use Rattle.held.specs.Room.{levelCells}
 use Rattle.held.specs.Subscriptions.{insert}
 use Rattle.held.specs.History.{accepted}
-use Rattle.held.specs.Forest.{Forest, hit, valuesAt}
+use Rattle.held.specs.Forest.{Forest}
+use Rattle.held.specs.Walks.{hit, valuesAt}
 use Rattle.held.specs.Edit.{insertF, withValue, missing, weigh}
 use Rattle.held.proofs.ByTexts.{insert-text}
 use Rattle.region.specs.Layout.{levelUnits, unitsF}
@@ -43,8 +44,8 @@ use Rattle.edit.proofs.Added.{none-missing, unit-more, unit-held, load-fits, ch
 use Rattle.trie.specs.declared.Slot.{Slot}
 use Rattle.trie.specs.Values.{spotFrom}
 use Rattle.trie.specs.Slots.{slotAt, slotIn}
-use Rattle.trie.specs.Calls.{heldIn, subscriptionStore}
-use Rattle.trie.proofs.ValueLaws.{Apart, Among, spot-among, spot-apart}
+use Rattle.trie.specs.Calls.{subscriptionStore}
+use Rattle.trie.proofs.ValueLaws.{Apart, spot-among, spot-apart}
 use Rattle.trie.proofs.StepLaws.{insert-refused, insert-there, insert-new}
 use Rattle.trie.proofs.StoredPath.{held-is, rooms-are, inserted-within, inserted-units}
 use Rattle.trie.proofs.StoredSlot.{here, own-asc, slot-stored}

@@ -2,7 +2,7 @@
 -- accepted filter is. Assumes nothing.
 use mathlib.Core.Path.{_≡_, refl, sym, ap, _∙_}
 use mathlib.Core.List.{List, [], _∷_}
-use Prim.Native.Nat.{ℕ, _+_, _≤_, _<_}
+use Prim.Native.Nat.{ℕ, _≤_, _<_}
 use native.Mathlib.Omega.{arith}
 use mathlib.Core.Bool.{Bool, true, false, _||_, true≢false}
 use lib.Dec.{eqb}
@@ -12,7 +12,6 @@ use Rattle.level.specs.Levels.{split}
 use Rattle.level.proofs.Join.{join-split}
 use Rattle.topic.specs.Rules.{filterRules}
 use Rattle.topic.specs.Answers.{checked}
-use Rattle.topic.specs.declared.Checked.{Checked}
 use Rattle.topic.specs.declared.Checked.the-variants.{Accepted}
 use Rattle.held.specs.Order.{samePair}
 use Rattle.held.specs.Ascending.{All, member}

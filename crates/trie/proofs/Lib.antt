@@ -10,3 +10,4 @@ pub mod RemoveLaws
 pub mod AskLaws
 pub mod SizeLaws
 pub mod Demand
+pub mod Settled

@@ -16,8 +16,9 @@ use Rattle.held.specs.Order.{Filter, samePair}
 use Rattle.held.specs.Ascending.{member}
 use Rattle.held.specs.Subscriptions.{isHeld, removeHeld, remove}
 use Rattle.held.specs.History.{accepted}
-use Rattle.held.specs.Forest.{Forest, leaf, hit, held, valuesAt}
-use Rattle.held.specs.Edit.{removeF, cutF, withoutValue, Full}
+use Rattle.held.specs.Forest.{Forest, leaf, held, Full}
+use Rattle.held.specs.Walks.{hit, valuesAt}
+use Rattle.held.specs.Edit.{removeF, cutF, withoutValue}
 use Rattle.held.proofs.Bounds.{length-keep}
 use Rattle.held.proofs.RoomLaws.{Within}
 use Rattle.held.proofs.ByTexts.{remove-text}
@@ -41,7 +42,7 @@ use Rattle.trie.specs.declared.Slot.{Slot}
 use Rattle.trie.specs.Values.{spotFrom}
 use Rattle.trie.specs.Slots.{slotAt, slotIn}
 use Rattle.trie.specs.Calls.{heldIn, subscriptionStore}
-use Rattle.trie.proofs.ValueLaws.{Apart, Among, spot-among, spot-apart}
+use Rattle.trie.proofs.ValueLaws.{Among, spot-among, spot-apart}
 use Rattle.trie.proofs.StepLaws.{remove-none, remove-done}
 use Rattle.trie.proofs.StoredPath.{held-is}
 use Rattle.trie.proofs.StoredSlot.{here, own-asc, slot-stored}

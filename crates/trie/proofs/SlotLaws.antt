@@ -1,16 +1,15 @@
 -- The slot of a value, from the row that was read. Assumes nothing.
-use mathlib.Core.Path.{_≡_, refl, sym, ap, _∙_}
+use mathlib.Core.Path.{_≡_, _∙_}
 use mathlib.Core.Bool.{true, false}
 use mathlib.Core.List.{List}
 use Prim.Native.Nat.{ℕ, _+_, _-_, _/_, _≤_, _<_}
-use native.Mathlib.Omega.{arith}
 use borrow.Author.Tests.{lt-ltb, le-ltb}
 use Rattle.forest.specs.declared.Row.{Row}
 use Rattle.forest.specs.Places.{levelUnitsAt, rowEnd, RowAt}
 use Rattle.trie.specs.declared.Spot.{Spot}
 use Rattle.trie.specs.declared.Slot.{Slot}
 use Rattle.trie.specs.Values.{valuesFrom, spotFrom}
-use Rattle.trie.specs.Slots.{slotAt, slotIn}
+use Rattle.trie.specs.Slots.{slotIn}
 
 module _ (base : ℕ) (s : List ℕ) (n node x : ℕ) {row : Row} (r : RowAt base s node n row) {first end : ℕ} (ef : first ≡ node + (row .len + 23) / 16) (ee : end ≡ row .end) where
   first-is : first ≡ node + levelUnitsAt base s node

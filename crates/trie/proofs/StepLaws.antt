@@ -1,9 +1,8 @@
 -- What shows that inserting and removing did what they should. Assumes nothing.
 use mathlib.Core.Path.{_≡_, refl, sym, ap, _∙_}
-use mathlib.Core.Bool.{Bool, true, false, cond, not, _&&_, _||_}
-use mathlib.Core.List.{List, [], _∷_, _++_}
+use mathlib.Core.Bool.{Bool, true, false, not, _&&_, _||_}
+use mathlib.Core.List.{List, _∷_}
 use Prim.Native.Nat.{ℕ, _≤_}
-use lib.Dec.{ltb}
 use lib.ListN.{length}
 use borrow.Author.Tests.{le-ltb}
 use Rattle.refusal.specs.declared.Refusal.{Refusal}
@@ -12,12 +11,12 @@ use Rattle.topic.specs.Rules.{Rule, filterRules}
 use Rattle.topic.specs.Answers.{checked}
 use Rattle.topic.specs.declared.Checked.the-variants.{Accepted, Refused as NotAccepted}
 use Rattle.held.specs.Order.{Filter, samePair, pairLt}
-use Rattle.held.specs.Ascending.{All, put, keep}
+use Rattle.held.specs.Ascending.{All}
 use Rattle.held.specs.Room.{roomRules, depthRule}
 use Rattle.held.specs.History.{verdict, accepted}
 use Rattle.held.specs.Subscriptions.{Pair, isHeld, insertHeld, removeHeld, Call, insert, remove, subscriptions}
-use Rattle.held.specs.Forest.{Forest, held}
-use Rattle.held.specs.Edit.{insertF, removeF, WellFormed}
+use Rattle.held.specs.Forest.{Forest, held, WellFormed}
+use Rattle.held.specs.Edit.{insertF, removeF}
 use Rattle.held.proofs.Orders.{pair-order}
 use Rattle.held.proofs.Entries.{all-put, all-keep}
 use Rattle.held.proofs.HeldLaws.{held-insert, held-remove, pairs-insert, pairs-remove, pairs-settled}

@@ -1,24 +1,24 @@
 -- A store of subscriptions, and the path of a filter in it. Assumes nothing.
-use mathlib.Core.Path.{_≡_, refl, sym, ap, _∙_}
-use mathlib.Core.Bool.{Bool, true, false}
+use mathlib.Core.Path.{_≡_, ap, _∙_}
+use mathlib.Core.Bool.{false}
 use mathlib.Core.List.{List, [], _∷_}
-use Prim.Native.Nat.{ℕ, suc, _+_, _-_, _≤_, _<_}
+use Prim.Native.Nat.{ℕ, suc, _+_, _-_, _≤_}
 use native.Mathlib.Omega.{arith}
 use lib.Dec.{eqb}
-use lib.ListN.{length, getD}
+use lib.ListN.{length}
 use Rattle.level.specs.Levels.{split}
 use Rattle.level.specs.Places.{first}
 use Rattle.level.proofs.Split.{split-cons, after}
 use Rattle.topic.specs.Rules.{filterRules}
 use Rattle.topic.specs.Answers.{checked}
 use Rattle.topic.specs.declared.Checked.the-variants.{Accepted}
-use Rattle.held.specs.Order.{Filter}
 use Rattle.held.specs.Ascending.{member}
 use Rattle.held.specs.Room.{levelCells, fullRules, roomRules, depthRule}
 use Rattle.held.specs.Subscriptions.{isHeld, insertHeld}
-use Rattle.held.specs.Forest.{Forest, hit, held, valuesAt}
-use Rattle.held.specs.History.{accepted}
+use Rattle.held.specs.Forest.{Forest, held}
+use Rattle.held.specs.Walks.{hit, valuesAt}
 use Rattle.held.specs.Edit.{insertF, sizeF, cellsF, weigh, missing, HashLast}
+use Rattle.held.specs.History.{accepted}
 use Rattle.held.proofs.Texts.{filter-hash}
 use Rattle.held.proofs.Refusals.{rules-insert}
 use Rattle.held.proofs.RoomLaws.{Within, room-within}

@@ -1,7 +1,6 @@
 -- What the code reads of the last node of a filter that is there in a store: the slot of a value among those that it holds.
 -- Assumes nothing.
 use mathlib.Core.Path.{_≡_, refl, sym, ap, _∙_}
-use mathlib.Core.Bool.{Bool, true, false}
 use mathlib.Core.List.{List, [], _∷_}
 use Prim.Native.Nat.{ℕ, suc, _+_, _-_, _*_, _^_, _≤_, _<_, min}
 use native.Mathlib.Omega.{arith}
@@ -17,8 +16,7 @@ use Rattle.lent.proofs.Anywhere.{read-in}
 use Rattle.level.specs.Levels.{split}
 use Rattle.held.specs.Ascending.{All}
 use Rattle.held.specs.Bytes.{each}
-use Rattle.held.specs.Forest.{Forest}
-use Rattle.held.specs.Edit.{AscValues}
+use Rattle.held.specs.Forest.{Forest, AscValues}
 use Rattle.region.specs.Layout.{levelUnits}
 use Rattle.region.specs.Units.{valueBytes, valueOf}
 use Rattle.region.specs.Store.{forestAt, SubscriptionStore}
@@ -31,7 +29,6 @@ use Rattle.change.specs.Ways.{ahead}
 use Rattle.change.proofs.StoreLaws.{store-holds}
 use Rattle.edit.proofs.LastLaws.{Last, last-units, last-end, last-owns, last-holds, last-small, last-inside}
 use Rattle.edit.proofs.KnownPath.{stands, last, node-is}
-use Rattle.trie.specs.declared.Slot.{Slot}
 use Rattle.trie.specs.Values.{valuesFrom, spotFrom}
 use Rattle.trie.specs.Slots.{slotAt, slotIn}
 

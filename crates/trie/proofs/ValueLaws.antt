@@ -1,17 +1,17 @@
 -- A value among ascending ones: where the search finds it or its place, and what putting it in or taking it out does. Assumes nothing.
 use mathlib.Core.Path.{_≡_, refl, sym, ap, subst, _∙_}
 use mathlib.Core.Logic.{⊎-elim}
-use mathlib.Core.Bool.{Bool, true, false, cond, not, _||_, true≢false}
+use mathlib.Core.Bool.{Bool, true, false, cond, true≢false}
 use mathlib.Core.List.{List, [], _∷_, _++_}
 use Prim.Native.Nat.{ℕ, zero, suc, _+_, _≤_, _<_}
 use native.Mathlib.Omega.{arith}
-use native.Mathlib.Nat.{add-zero}
 use lib.Dec.{eqb, ltb}
 use lib.ListN.{length}
 use borrow.Author.Tests.{eq-eqb, ne-eqb, lt-ltb, le-ltb, ltb-true, ltb-false, eqb-true}
 use Rattle.lent.proofs.Anywhere.{lt-or-ge}
-use Rattle.held.specs.Ascending.{Below, Asc, member, put, keep}
-use Rattle.held.specs.Edit.{withValue, withoutValue, AscValues}
+use Rattle.held.specs.Ascending.{Below, member}
+use Rattle.held.specs.Forest.{AscValues}
+use Rattle.held.specs.Edit.{withValue, withoutValue}
 use Rattle.trie.specs.declared.Spot.{Spot}
 use Rattle.trie.specs.Values.{spotFrom}
 

@@ -43,7 +43,7 @@ pub record StepTable (t : List ℕ) : Type 0 where
   pub is : (d b : ℕ) → d < 8 → b < 256 → nextOf (getD t (d * 12 + classOf b) 0) ≡ follow (due d) b
   pub small : (d b : ℕ) → d < 8 → b < 256 → getD t (d * 12 + classOf b) 0 ≤ 8
 
--- every octet is below 80
+-- every octet is below 0x80
 abbrev pub isAscii : List ℕ → Bool
 isAscii [] = true
 isAscii (b ∷ s) = ltb b 0x80 && isAscii s

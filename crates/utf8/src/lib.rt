@@ -1,5 +1,5 @@
-// UTF-8 by RFC 3629, section 4: the octets of a text are read once, from left to right, and a number says which octets
-// are still due before the character that has begun is whole.
+// UTF-8 by RFC 3629, section 4: the octets of a text that is not all ASCII are read through the tables, from left to right, and a
+// number says which octets are still due before the character that has begun is whole.
 mod tables;
 
 use tables::CLASSES;
@@ -21,7 +21,7 @@ fn larger(a: u8, b: u8) -> u8
     if a < b { b } else { a }
 }
 
-// Whether every octet is below 80: most texts are, and then the tables are not needed. The loop stops nowhere, so that the
+// Whether every octet is below 0x80: most texts are, and then the tables are not needed. The loop stops nowhere, so that the
 // compiler can take many octets in one step.
 fn is_ascii(text: &[u8]) -> bool
     ensures { λ r. ⌜ r ≡ isAscii (now (text .entry)) ⌝ }

@@ -10,8 +10,9 @@ use lib.ListN.{length}
 use Rattle.level.specs.Levels.{split}
 use Rattle.topic.specs.Match.{leadDollar}
 use Rattle.held.specs.Order.{Filter}
+use Rattle.held.specs.Forest.{Forest}
+use Rattle.held.specs.Walks.{Hit, miss, hit, hash, plus, kid}
 use Rattle.held.specs.Edit.{Plain}
-use Rattle.held.specs.Forest.{Forest, Hit, miss, hit, hash, plus, kid}
 use Rattle.held.specs.Stream.{oneOf, hashCount, walkCount, literalCount, listCount}
 use Rattle.region.specs.Layout.{unitsF}
 use Rattle.walk.specs.Bounds.{mostRecords, AtMost}

@@ -6,7 +6,8 @@ use Prim.Native.Nat.{ℕ, suc, _≤_, _<_, max}
 use native.Mathlib.Omega.{arith}
 use Rattle.level.specs.Kinds.{same}
 use Rattle.held.specs.Order.{Level}
-use Rattle.held.specs.Forest.{Forest, leaf, fork, Hit, miss, hit, kid}
+use Rattle.held.specs.Forest.{Forest, leaf, fork}
+use Rattle.held.specs.Walks.{Hit, miss, hit, kid}
 use Rattle.walk.specs.Height.{heightF}
 
 module _ {X : Type 0} where

@@ -6,19 +6,10 @@ use native.Mathlib.Omega.{arith}
 use lib.ListN.{length}
 use Rattle.held.specs.Order.{Level, Filter}
 use Rattle.held.specs.Ascending.{All}
-use Rattle.held.specs.Forest.{Forest, leaf, fork, under, held}
-use Rattle.held.specs.Edit.{Full}
+use Rattle.held.specs.Forest.{Forest, leaf, fork, under, held, Full}
 use Rattle.walk.specs.Height.{heightF}
 use Rattle.walk.proofs.Heights.{no-height}
-
-module _ {E : Type 0} (P : E → Type 0) where
-  all-front : (a b : List E) → All P (a ++ b) → All P a
-  all-front [] b h = tt
-  all-front (x ∷ a) b h = (h .0, all-front a b (h .1))
-
-  all-back : (a b : List E) → All P (a ++ b) → All P b
-  all-back [] b h = h
-  all-back (x ∷ a) b h = all-back a b (h .1)
+use Rattle.held.proofs.Entries.{all-before, all-behind}
 
 module _ {X : Type 0} where
   abbrev pub Short : ℕ → Filter × X → Type 0
@@ -34,10 +25,10 @@ module _ {X : Type 0} where
   height-held (fork t v k n) m f h =
       let own : List (Filter × X) = map (λ x. (t ∷ [], x)) v in
       let low : List (Filter × X) = map (under t) (held k) in
-      let rest = all-back (Short m) own (low ++ held n) h in
-      let kids : heightF k ≤ m - 1 = height-held k (m - 1) (f .1) (shorter t m (held k) (all-front (Short m) low (held n) rest)) in
-      let next : heightF n ≤ m = height-held n m (f .2) (all-back (Short m) low (held n) rest) in
-      omega (arith, kids, next, some m (all-front (Short m) own (low ++ held n) h) kids)
+      let rest = all-behind (Short m) own (low ++ held n) h in
+      let kids : heightF k ≤ m - 1 = height-held k (m - 1) (f .1) (shorter t m (held k) (all-before (Short m) low (held n) rest)) in
+      let next : heightF n ≤ m = height-held n m (f .2) (all-behind (Short m) low (held n) rest) in
+      omega (arith, kids, next, some m (all-before (Short m) own (low ++ held n) h) kids)
     where
       some : (m : ℕ) → All (Short m) (map (λ x. (t ∷ [], x)) v) → heightF k ≤ m - 1 → 1 ≤ m
       some zero h l = absurd (f .0 (none v h) (no-height k (omega (arith, l))))

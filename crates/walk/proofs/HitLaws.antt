@@ -11,7 +11,8 @@ use Rattle.level.specs.Levels.{split}
 use Rattle.level.specs.Places.{levelsAt}
 use Rattle.level.proofs.Split.{levels-cons, levels-none}
 use Rattle.held.specs.Order.{Level, Filter}
-use Rattle.held.specs.Forest.{Forest, miss, hit, hash, plus, kid}
+use Rattle.held.specs.Forest.{Forest}
+use Rattle.held.specs.Walks.{miss, hit, hash, plus, kid}
 use Rattle.held.specs.Stream.{someOf, hashHit, walkHit, listHit}
 use Rattle.walk.specs.declared.Start.{Start}
 use Rattle.walk.specs.declared.Node.{Node}

@@ -5,7 +5,8 @@ use Prim.Native.Nat.{ℕ, _+_, _/_, _≤_, min}
 use native.Mathlib.Omega.{arith}
 use lib.ListN.{length}
 use Rattle.held.specs.Order.{Level}
-use Rattle.held.specs.Forest.{Forest, leaf, Hit, miss, hit, kid}
+use Rattle.held.specs.Forest.{Forest, leaf}
+use Rattle.held.specs.Walks.{Hit, miss, hit, kid}
 use Rattle.region.proofs.Instances.{values}
 use Rattle.forest.specs.Stands.{rawIn, RawStands}
 use Rattle.forest.proofs.StandsLaws.{fits-fork}

@@ -8,7 +8,8 @@ use Rattle.level.specs.Levels.{split, join}
 use Rattle.level.specs.Places.{levelsAt}
 use Rattle.level.proofs.Split.{levels-none}
 use Rattle.held.specs.Order.{Level, Filter}
-use Rattle.held.specs.Forest.{Forest, miss, hit, hash, plus, kid}
+use Rattle.held.specs.Forest.{Forest}
+use Rattle.held.specs.Walks.{miss, hit, hash, plus, kid}
 use Rattle.held.specs.Stream.{oneOf, recordAt, hashCount, walkCount, listBytes, listCount}
 use Rattle.held.proofs.Equations.{walk-miss, walk-end, walk-on}
 use Rattle.walk.specs.declared.Measured.{Measured}

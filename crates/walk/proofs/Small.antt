@@ -10,8 +10,9 @@ use Rattle.level.specs.Levels.{split, join, width}
 use Rattle.level.proofs.Join.{join-split}
 use Rattle.topic.specs.Match.{leadDollar}
 use Rattle.held.specs.Order.{Level, Filter}
+use Rattle.held.specs.Forest.{Forest, leaf, fork}
+use Rattle.held.specs.Walks.{Hit, miss, hit, hash, plus, kid}
 use Rattle.held.specs.Edit.{Plain}
-use Rattle.held.specs.Forest.{Forest, leaf, fork, Hit, miss, hit, hash, plus, kid}
 use Rattle.held.specs.Stream.{oneOf, recordAt, hashBytes, hashCount, walkBytes, walkCount, literalBytes, literalCount, listBytes, listCount}
 use Rattle.held.proofs.Equations.{walk-miss, walk-end, walk-on}
 use Rattle.held.proofs.Orders.{level-order}

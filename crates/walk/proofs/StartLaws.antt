@@ -11,7 +11,8 @@ use Rattle.level.specs.Levels.{split}
 use Rattle.level.specs.Places.{levelsAt}
 use Rattle.topic.specs.Match.{leadDollar}
 use Rattle.held.specs.Order.{Level, Filter}
-use Rattle.held.specs.Forest.{Forest, hit, kid}
+use Rattle.held.specs.Forest.{Forest}
+use Rattle.held.specs.Walks.{hit, kid}
 use Rattle.held.specs.Stream.{walkHit, literalHit, listHit, walkCount, literalCount, listCount, walkBytes, literalBytes, listBytes}
 use Rattle.forest.specs.Places.{unitAt}
 use Rattle.walk.specs.declared.Node.{Node}

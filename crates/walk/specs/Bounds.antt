@@ -3,8 +3,8 @@ use Prim.Native.Nat.{ℕ, zero, suc, _+_, _*_, _≤_}
 use mathlib.Core.List.{List}
 use lib.ListN.{length}
 use Rattle.level.specs.Levels.{split}
-use Rattle.held.specs.Edit.{Plain}
 use Rattle.held.specs.Forest.{Forest}
+use Rattle.held.specs.Edit.{Plain}
 use Rattle.held.specs.Stream.{listBytes}
 use Rattle.region.specs.Layout.{unitsF}
 

@@ -1,4 +1,4 @@
--- TO BELIEVE. How many nodes a forest has one below another. Assumes nothing.
+-- FOR THE CODE. How many nodes a forest has one below another. Assumes nothing.
 use Prim.Native.Nat.{ℕ, suc, max}
 use Rattle.held.specs.Forest.{Forest, leaf, fork}
 

@@ -4,7 +4,7 @@ use mathlib.Core.Bool.{Bool}
 use Prim.Native.Nat.{ℕ}
 use mathlib.Core.List.{List}
 use Rattle.held.specs.Order.{Filter}
-use Rattle.held.specs.Forest.{Hit}
+use Rattle.held.specs.Walks.{Hit}
 use Rattle.held.specs.Stream.{walkHit, hashHit}
 use Rattle.walk.specs.declared.Node.{Node}
 use Rattle.walk.specs.Nodes.{NodeIs}

@@ -7,7 +7,8 @@ use Rattle.lent.specs.Parts.{part}
 use Rattle.held.specs.Order.{Level}
 use Rattle.held.specs.Ascending.{All}
 use Rattle.held.specs.Bytes.{each}
-use Rattle.held.specs.Forest.{Forest, Hit, miss, hit, kid}
+use Rattle.held.specs.Forest.{Forest}
+use Rattle.held.specs.Walks.{Hit, miss, hit, kid}
 use Rattle.region.specs.Units.{valueBytes, valueOf}
 use Rattle.forest.specs.Places.{unitAt, forestIn}
 use Rattle.forest.specs.Stands.{Stands}

@@ -5,7 +5,7 @@ use mathlib.Core.List.{List, [], _∷_}
 use lib.ListN.{length}
 use Rattle.level.specs.Levels.{width}
 use Rattle.held.specs.Order.{Filter}
-use Rattle.held.specs.Forest.{Hit}
+use Rattle.held.specs.Walks.{Hit}
 use Rattle.held.specs.Stream.{oneOf, hashBytes, hashCount, walkBytes, walkCount}
 use Rattle.walk.specs.declared.Node.{Node}
 use Rattle.walk.specs.declared.Measured.{Measured}

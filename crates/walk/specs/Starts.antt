@@ -5,7 +5,7 @@ use mathlib.Core.List.{List}
 use lib.ListN.{length, take, drop}
 use Rattle.level.specs.Levels.{split, width}
 use Rattle.level.specs.Places.{levelsAt}
-use Rattle.held.specs.Forest.{Hit}
+use Rattle.held.specs.Walks.{Hit}
 use Rattle.held.specs.Stream.{walkHit, listHit, walkCount, listCount, walkBytes, listBytes}
 use Rattle.walk.specs.declared.Start.{Start}
 use Rattle.walk.specs.Nodes.{valuesIn, Listed, NodeIn, NodeIs}

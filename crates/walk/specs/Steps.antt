@@ -4,7 +4,7 @@ use mathlib.Core.List.{List, _∷_}
 use Prim.Native.Nat.{ℕ, _+_, _-_, _*_, _≤_}
 use lib.ListN.{length, take, drop}
 use Rattle.level.specs.Places.{levelsAt}
-use Rattle.held.specs.Forest.{plus}
+use Rattle.held.specs.Walks.{plus}
 use Rattle.walk.specs.declared.Step.{Step}
 use Rattle.walk.specs.Nodes.{Kid}
 

@@ -1,3 +1,4 @@
+-- `region::is_up_to` meets its contract. Assumes nothing.
 use borrow.Author.Needs.{needs}
 -- `region::is_up_to` meets its contract. Assumes nothing.
 use Rattle.region.proofs.Sizes.{up-some, up-none}

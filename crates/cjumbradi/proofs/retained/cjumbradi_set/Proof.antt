@@ -1,12 +1,8 @@
+-- `cjumbradi::retained::cjumbradi_set` meets its contract. Assumes nothing.
 use Rattle.cjumbradi.proofs.Moments.{set-told}
 use borrow.Author.Needs.{needs}
 use Rattle.cjumbradi.proofs.retained.cjumbradi_set.Statement.{statement}
 use Rattle.cjumbradi.proofs.retained.cjumbradi_set.Tie as tie
-use Rattle.cjumbradi.proofs.retained.cjumbradi_set.Reads as reads
-use Rattle.cjumbradi.proofs.retained.cjumbradi_set.Lts as lts
-use Rattle.cjumbradi.proofs.retained.moment_given.Reads as moment-given-reads
-use Rattle.cjumbradi.proofs.telling.tell_changed.Reads as tell-changed-reads
-use Rattle.retain.proofs.set.Reads as set-reads
 
 -- src/retained.rt:38:9
 moment-given-requires : tie.Need-moment-given-requires

@@ -1,9 +1,8 @@
+-- `cjumbradi::retained::moment_given` meets its contract. Assumes nothing.
 use Rattle.cjumbradi.proofs.Moments.{given-never, given-at}
 use borrow.Author.Needs.{needs}
 use Rattle.cjumbradi.proofs.retained.moment_given.Statement.{statement}
 use Rattle.cjumbradi.proofs.retained.moment_given.Tie as tie
-use Rattle.cjumbradi.proofs.retained.moment_given.Reads as reads
-use Rattle.cjumbradi.proofs.retained.moment_given.Lts as lts
 
 -- src/retained.rt:21:9
 returns : tie.Need-returns

@@ -1,12 +1,9 @@
+-- `cjumbradi::telling::tell_changed` meets its contract. Assumes nothing.
 use borrow.Author.Needs.{needs}
 use Rattle.cjumbradi.specs.Stores.{ofChanged}
 use Rattle.cjumbradi.proofs.Tellings.{told-arm}
 use Rattle.cjumbradi.proofs.telling.tell_changed.Statement.{statement}
 use Rattle.cjumbradi.proofs.telling.tell_changed.Tie as tie
-use Rattle.cjumbradi.proofs.telling.tell_changed.Reads as reads
-use Rattle.cjumbradi.proofs.telling.tell_changed.Lts as lts
-use Rattle.cjumbradi.proofs.telling.tell_found.Reads as tell-found-reads
-use Rattle.cjumbradi.proofs.telling.tell_refusal.Reads as tell-refusal-reads
 
 -- src/telling.rt:107:23
 enum-known-changed : tie.Need-enum-known-changed

@@ -1,12 +1,9 @@
+-- `cjumbradi::telling::tell_listed` meets its contract. Assumes nothing.
 use borrow.Author.Needs.{needs}
-use Rattle.cjumbradi.proofs.Tellings.{told-arm, value-arm}
-use Rattle.cjumbradi.specs.Stores.{ofListed, recordsOf}
+use Rattle.cjumbradi.proofs.Tellings.{told-two}
+use Rattle.cjumbradi.specs.Stores.{ofListed}
 use Rattle.cjumbradi.proofs.telling.tell_listed.Statement.{statement}
 use Rattle.cjumbradi.proofs.telling.tell_listed.Tie as tie
-use Rattle.cjumbradi.proofs.telling.tell_listed.Reads as reads
-use Rattle.cjumbradi.proofs.telling.tell_listed.Lts as lts
-use Rattle.cjumbradi.proofs.telling.tell_found.Reads as tell-found-reads
-use Rattle.cjumbradi.proofs.telling.tell_refusal.Reads as tell-refusal-reads
 
 -- src/telling.rt:117:25
 enum-known-listed : tie.Need-enum-known-listed
@@ -18,7 +15,7 @@ tell-found-requires c κs = search needs
 
 -- src/telling.rt:119:13
 returns : tie.Need-returns
-returns c = search (needs, told-arm ofListed, value-arm recordsOf)
+returns c = search (needs, told-two ofListed)
 
 -- src/telling.rt:121:25
 enum-known-listed-2 : tie.Need-enum-known-listed-2
@@ -30,7 +27,7 @@ tell-refusal-requires c κs = search needs
 
 -- src/telling.rt:123:13
 returns-2 : tie.Need-returns-2
-returns-2 c = search (needs, told-arm ofListed, value-arm recordsOf)
+returns-2 c = search (needs, told-two ofListed)
 
 pub tell-listed-spec : {M : Type 1} → statement M
 tell-listed-spec =

@@ -1,3 +1,4 @@
+-- `cjumbradi::telling::tell_names` meets its contract. Assumes nothing.
 use Rattle.retain.specs.declared.Names.{Names}
 use Rattle.retain.specs.Counted.{namesTold}
 use Rattle.cjumbradi.specs.Stores.{ofOutcome}
@@ -5,10 +6,6 @@ use Rattle.cjumbradi.proofs.Tellings.{told-arm}
 use borrow.Author.Needs.{needs}
 use Rattle.cjumbradi.proofs.telling.tell_names.Statement.{statement}
 use Rattle.cjumbradi.proofs.telling.tell_names.Tie as tie
-use Rattle.cjumbradi.proofs.telling.tell_names.Reads as reads
-use Rattle.cjumbradi.proofs.telling.tell_names.Lts as lts
-use Rattle.cjumbradi.proofs.telling.tell_found.Reads as tell-found-reads
-use Rattle.cjumbradi.proofs.telling.tell_refusal.Reads as tell-refusal-reads
 
 -- src/telling.rt:142:21
 enum-known-names : tie.Need-enum-known-names

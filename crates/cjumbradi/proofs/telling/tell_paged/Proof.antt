@@ -1,13 +1,9 @@
-use Rattle.cjumbradi.proofs.Tellings.{told-arm, value-arm}
-use Rattle.cjumbradi.specs.Stores.{ofPaged, pageRecordsOf, followsOf}
+-- `cjumbradi::telling::tell_paged` meets its contract. Assumes nothing.
+use Rattle.cjumbradi.proofs.Tellings.{told-three}
+use Rattle.cjumbradi.specs.Stores.{ofPaged}
 use borrow.Author.Needs.{needs}
 use Rattle.cjumbradi.proofs.telling.tell_paged.Statement.{statement}
 use Rattle.cjumbradi.proofs.telling.tell_paged.Tie as tie
-use Rattle.cjumbradi.proofs.telling.tell_paged.Reads as reads
-use Rattle.cjumbradi.proofs.telling.tell_paged.Lts as lts
-use Rattle.cjumbradi.proofs.telling.one_if.Reads as one-if-reads
-use Rattle.cjumbradi.proofs.telling.tell_found.Reads as tell-found-reads
-use Rattle.cjumbradi.proofs.telling.tell_refusal.Reads as tell-refusal-reads
 
 -- src/telling.rt:137:13
 enum-known-paged : tie.Need-enum-known-paged
@@ -23,7 +19,7 @@ tell-found-requires c κs = search needs
 
 -- src/telling.rt:143:13
 returns : tie.Need-returns
-returns c = search (needs, told-arm ofPaged, value-arm pageRecordsOf, value-arm followsOf)
+returns c = search (needs, told-three ofPaged)
 
 -- src/telling.rt:145:24
 enum-known-paged-2 : tie.Need-enum-known-paged-2
@@ -35,7 +31,7 @@ tell-refusal-requires c κs = search needs
 
 -- src/telling.rt:148:13
 returns-2 : tie.Need-returns-2
-returns-2 c = search (needs, told-arm ofPaged, value-arm pageRecordsOf, value-arm followsOf)
+returns-2 c = search (needs, told-three ofPaged)
 
 pub tell-paged-spec : {M : Type 1} → statement M
 tell-paged-spec =

@@ -1,13 +1,8 @@
+-- `edit::adding::add_chain` meets its contract. Assumes nothing.
 use Rattle.edit.proofs.AddLaws.{chain-refused, chain-short, chain-added, nodes-under, chain-deep}
 use borrow.Author.Needs.{needs}
 use Rattle.edit.proofs.adding.add_chain.Statement.{statement}
 use Rattle.edit.proofs.adding.add_chain.Tie as tie
-use Rattle.edit.proofs.adding.add_chain.Reads as reads
-use Rattle.edit.proofs.adding.add_chain.Lts as lts
-use Rattle.region.proofs.room_for.Reads as room-for-reads
-use Rattle.region.proofs.capacities_of.Reads as capacities-of-reads
-use Rattle.room.proofs.wanted_for.Reads as wanted-for-reads
-use Rattle.room.proofs.make_chain.Reads as make-chain-reads
 
 -- src/adding.rt:58:9
 wanted-for-requires : tie.Need-wanted-for-requires

@@ -1,12 +1,8 @@
+-- `edit::adding::add_unit` meets its contract. Assumes nothing.
 use Rattle.edit.proofs.AddLaws.{add-refused, add-short, unit-added}
 use borrow.Author.Needs.{needs}
 use Rattle.edit.proofs.adding.add_unit.Statement.{statement}
 use Rattle.edit.proofs.adding.add_unit.Tie as tie
-use Rattle.edit.proofs.adding.add_unit.Reads as reads
-use Rattle.edit.proofs.adding.add_unit.Lts as lts
-use Rattle.region.proofs.room_for.Reads as room-for-reads
-use Rattle.region.proofs.capacities_of.Reads as capacities-of-reads
-use Rattle.room.proofs.make_unit.Reads as make-unit-reads
 
 -- src/adding.rt:33:35
 capacities-of-requires : tie.Need-capacities-of-requires

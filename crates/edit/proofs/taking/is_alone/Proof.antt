@@ -1,10 +1,8 @@
+-- `edit::taking::is_alone` meets its contract. Assumes nothing.
 use Rattle.edit.proofs.TakeLaws.{alone-is, alone-not}
 use borrow.Author.Needs.{needs}
 use Rattle.edit.proofs.taking.is_alone.Statement.{statement}
 use Rattle.edit.proofs.taking.is_alone.Tie as tie
-use Rattle.edit.proofs.taking.is_alone.Reads as reads
-use Rattle.edit.proofs.taking.is_alone.Lts as lts
-use Rattle.forest.proofs.row_at.Reads as row-at-reads
 
 -- src/taking.rt:16:9
 row-at-requires : tie.Need-row-at-requires

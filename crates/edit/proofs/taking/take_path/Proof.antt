@@ -1,13 +1,8 @@
+-- `edit::taking::take_path` meets its contract. Assumes nothing.
 use Rattle.edit.proofs.TakeLaws.{path-out, path-none, path-taken, stay-under}
 use borrow.Author.Needs.{needs}
 use Rattle.edit.proofs.taking.take_path.Statement.{statement}
 use Rattle.edit.proofs.taking.take_path.Tie as tie
-use Rattle.edit.proofs.taking.take_path.Reads as reads
-use Rattle.edit.proofs.taking.take_path.Lts as lts
-use Rattle.level.proofs.level_start.Reads as level-start-reads
-use Rattle.room.proofs.wanted_for.Reads as wanted-for-reads
-use Rattle.room.proofs.stay.Reads as stay-reads
-use Rattle.room.proofs.take_chain.Reads as take-chain-reads
 
 -- src/taking.rt:35:9
 stay-requires : tie.Need-stay-requires

@@ -1,10 +1,8 @@
+-- `edit::taking::take_unit` meets its contract. Assumes nothing.
 use Rattle.edit.proofs.TakeLaws.{unit-out, unit-less}
 use borrow.Author.Needs.{needs}
 use Rattle.edit.proofs.taking.take_unit.Statement.{statement}
 use Rattle.edit.proofs.taking.take_unit.Tie as tie
-use Rattle.edit.proofs.taking.take_unit.Reads as reads
-use Rattle.edit.proofs.taking.take_unit.Lts as lts
-use Rattle.room.proofs.take_unit.Reads as take-unit-reads
 
 -- src/taking.rt:63:9
 returns : tie.Need-returns

@@ -1,12 +1,8 @@
+-- `known::retained::cjumbradi_known_set` meets its contract. Assumes nothing.
 use Rattle.known.proofs.Moments.{known-set-told}
 use borrow.Author.Needs.{needs}
 use Rattle.known.proofs.retained.cjumbradi_known_set.Statement.{statement}
 use Rattle.known.proofs.retained.cjumbradi_known_set.Tie as tie
-use Rattle.known.proofs.retained.cjumbradi_known_set.Reads as reads
-use Rattle.known.proofs.retained.cjumbradi_known_set.Lts as lts
-use Rattle.cjumbradi.proofs.moment_given.Reads as moment-given-reads
-use Rattle.cjumbradi.proofs.tell_changed.Reads as tell-changed-reads
-use Rattle.retain.proofs.set_known.Reads as set-known-reads
 
 -- src/retained.rt:26:9
 moment-given-requires : tie.Need-moment-given-requires

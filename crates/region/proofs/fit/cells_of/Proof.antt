@@ -1,10 +1,8 @@
+-- `region::fit::cells_of` meets its contract. Assumes nothing.
 use Rattle.region.proofs.FitLaws.{cells-plus, cells-hash, cells-other}
 use borrow.Author.Needs.{needs}
 use Rattle.region.proofs.fit.cells_of.Statement.{statement}
 use Rattle.region.proofs.fit.cells_of.Tie as tie
-use Rattle.region.proofs.fit.cells_of.Reads as reads
-use Rattle.region.proofs.fit.cells_of.Lts as lts
-use Rattle.level.proofs.is_only.Reads as is-only-reads
 
 -- src/fit.rt:47:8
 is-only-requires : tie.Need-is-only-requires

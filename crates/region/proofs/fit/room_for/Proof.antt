@@ -1,12 +1,8 @@
+-- `region::fit::room_for` meets its contract. Assumes nothing.
 use Rattle.region.proofs.FitLaws.{nodes-full, pairs-full, cells-full, all-fit}
 use borrow.Author.Needs.{needs}
 use Rattle.region.proofs.fit.room_for.Statement.{statement}
 use Rattle.region.proofs.fit.room_for.Tie as tie
-use Rattle.region.proofs.fit.room_for.Reads as reads
-use Rattle.region.proofs.fit.room_for.Lts as lts
-use Rattle.region.proofs.counts.cells_size.Reads as cells-size-reads
-use Rattle.region.proofs.counts.nodes_size.Reads as nodes-size-reads
-use Rattle.region.proofs.counts.values_size.Reads as values-size-reads
 
 -- src/fit.rt:27:9
 nodes-size-requires : tie.Need-nodes-size-requires

@@ -1,10 +1,8 @@
+-- `region::header::capacities_of` meets its contract. Assumes nothing.
 use Rattle.region.proofs.ShapeLaws.{capacities-are}
 use borrow.Author.Needs.{needs}
 use Rattle.region.proofs.header.capacities_of.Statement.{statement}
 use Rattle.region.proofs.header.capacities_of.Tie as tie
-use Rattle.region.proofs.header.capacities_of.Reads as reads
-use Rattle.region.proofs.header.capacities_of.Lts as lts
-use Rattle.lent.proofs.get16.Reads as get16-reads
 
 -- src/header.rt:14:22
 get16-requires : tie.Need-get16-requires

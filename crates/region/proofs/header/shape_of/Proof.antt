@@ -1,10 +1,8 @@
+-- `region::header::shape_of` meets its contract. Assumes nothing.
 use Rattle.region.proofs.ShapeLaws.{shape-short, shape-over, shape-units}
 use borrow.Author.Needs.{needs}
 use Rattle.region.proofs.header.shape_of.Statement.{statement}
 use Rattle.region.proofs.header.shape_of.Tie as tie
-use Rattle.region.proofs.header.shape_of.Reads as reads
-use Rattle.region.proofs.header.shape_of.Lts as lts
-use Rattle.lent.proofs.get16.Reads as get16-reads
 
 -- src/header.rt:24:17
 get16-requires : tie.Need-get16-requires

@@ -1,11 +1,8 @@
+-- `retain::asking::get` meets its contract. Assumes nothing.
 use Rattle.retain.proofs.LookLaws.{look-other, look-store}
 use borrow.Author.Needs.{needs}
 use Rattle.retain.proofs.asking.get.Statement.{statement}
 use Rattle.retain.proofs.asking.get.Tie as tie
-use Rattle.retain.proofs.asking.get.Reads as reads
-use Rattle.retain.proofs.asking.get.Lts as lts
-use Rattle.audit.proofs.is_store.Reads as is-store-reads
-use Rattle.retain.proofs.asking.get_known.Reads as get-known-reads
 
 -- src/asking.rt:59:9
 is-store-requires : tie.Need-is-store-requires

@@ -1,12 +1,9 @@
+-- `retain::asking::get_known` meets its contract. Assumes nothing.
 use Rattle.edit.proofs.StepLaws.{text-accepted}
 use Rattle.retain.proofs.LookLaws.{look-refused}
 use borrow.Author.Needs.{needs}
 use Rattle.retain.proofs.asking.get_known.Statement.{statement}
 use Rattle.retain.proofs.asking.get_known.Tie as tie
-use Rattle.retain.proofs.asking.get_known.Reads as reads
-use Rattle.retain.proofs.asking.get_known.Lts as lts
-use Rattle.retain.proofs.asking.look_accepted.Reads as look-accepted-reads
-use Rattle.topic.proofs.is_valid_topic_filter.Reads as is-valid-topic-filter-reads
 
 -- src/asking.rt:69:9
 is-valid-topic-filter-requires : tie.Need-is-valid-topic-filter-requires

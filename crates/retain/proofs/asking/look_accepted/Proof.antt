@@ -1,12 +1,9 @@
+-- `retain::asking::look_accepted` meets its contract. Assumes nothing.
 use Rattle.edit.proofs.KnownPath.{units-told}
 use Rattle.retain.proofs.LookLaws.{look-none}
 use borrow.Author.Needs.{needs}
 use Rattle.retain.proofs.asking.look_accepted.Statement.{statement}
 use Rattle.retain.proofs.asking.look_accepted.Tie as tie
-use Rattle.retain.proofs.asking.look_accepted.Reads as reads
-use Rattle.retain.proofs.asking.look_accepted.Lts as lts
-use Rattle.region.proofs.shape_of.Reads as shape-of-reads
-use Rattle.retain.proofs.asking.look_in.Reads as look-in-reads
 
 -- src/asking.rt:48:9
 shape-of-requires : tie.Need-shape-of-requires

@@ -1,12 +1,9 @@
+-- `retain::asking::look_in` meets its contract. Assumes nothing.
 use Rattle.retain.proofs.KnownLaws.{lent-units}
 use Rattle.retain.proofs.LookLaws.{look-short, look-given}
 use borrow.Author.Needs.{needs}
 use Rattle.retain.proofs.asking.look_in.Statement.{statement}
 use Rattle.retain.proofs.asking.look_in.Tie as tie
-use Rattle.retain.proofs.asking.look_in.Reads as reads
-use Rattle.retain.proofs.asking.look_in.Lts as lts
-use Rattle.lookup.proofs.measure.Reads as measure-reads
-use Rattle.pages.proofs.write_all.Reads as write-all-reads
 
 -- src/asking.rt:33:9
 measure-requires : tie.Need-measure-requires

@@ -1,12 +1,9 @@
+-- `retain::calls::remove_expired` meets its contract. Assumes nothing.
 use Rattle.retain.specs.Calls.{retainedStore}
 use Rattle.edit.proofs.CallLaws.{not-a-store, store-does}
 use borrow.Author.Needs.{needs}
 use Rattle.retain.proofs.calls.remove_expired.Statement.{statement}
 use Rattle.retain.proofs.calls.remove_expired.Tie as tie
-use Rattle.retain.proofs.calls.remove_expired.Reads as reads
-use Rattle.retain.proofs.calls.remove_expired.Lts as lts
-use Rattle.audit.proofs.is_store.Reads as is-store-reads
-use Rattle.retain.proofs.calls.remove_expired_known.Reads as remove-expired-known-reads
 
 -- src/calls.rt:52:9
 is-store-requires : tie.Need-is-store-requires

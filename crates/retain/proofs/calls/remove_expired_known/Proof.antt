@@ -1,12 +1,9 @@
+-- `retain::calls::remove_expired_known` meets its contract. Assumes nothing.
 use Rattle.edit.proofs.KnownPath.{units-told}
 use Rattle.retain.proofs.KnownLaws.{no-units}
 use borrow.Author.Needs.{needs}
 use Rattle.retain.proofs.calls.remove_expired_known.Statement.{statement}
 use Rattle.retain.proofs.calls.remove_expired_known.Tie as tie
-use Rattle.retain.proofs.calls.remove_expired_known.Reads as reads
-use Rattle.retain.proofs.calls.remove_expired_known.Lts as lts
-use Rattle.region.proofs.shape_of.Reads as shape-of-reads
-use Rattle.retain.proofs.calls.sweep_in.Reads as sweep-in-reads
 
 -- src/calls.rt:72:9
 shape-of-requires : tie.Need-shape-of-requires

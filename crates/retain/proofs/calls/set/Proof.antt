@@ -1,12 +1,9 @@
+-- `retain::calls::set` meets its contract. Assumes nothing.
 use Rattle.retain.specs.Calls.{retainedStore}
 use Rattle.edit.proofs.CallLaws.{not-a-store, store-does}
 use borrow.Author.Needs.{needs}
 use Rattle.retain.proofs.calls.set.Statement.{statement}
 use Rattle.retain.proofs.calls.set.Tie as tie
-use Rattle.retain.proofs.calls.set.Reads as reads
-use Rattle.retain.proofs.calls.set.Lts as lts
-use Rattle.audit.proofs.is_store.Reads as is-store-reads
-use Rattle.retain.proofs.calls.set_known.Reads as set-known-reads
 
 -- src/calls.rt:22:9
 is-store-requires : tie.Need-is-store-requires

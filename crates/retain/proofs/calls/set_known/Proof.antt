@@ -1,13 +1,9 @@
+-- `retain::calls::set_known` meets its contract. Assumes nothing.
 use Rattle.edit.proofs.StepLaws.{text-accepted}
 use Rattle.retain.proofs.KnownLaws.{name-refused, sets, erases}
 use borrow.Author.Needs.{needs}
 use Rattle.retain.proofs.calls.set_known.Statement.{statement}
 use Rattle.retain.proofs.calls.set_known.Tie as tie
-use Rattle.retain.proofs.calls.set_known.Reads as reads
-use Rattle.retain.proofs.calls.set_known.Lts as lts
-use Rattle.retain.proofs.erasing.erase_accepted.Reads as erase-accepted-reads
-use Rattle.retain.proofs.setting.set_accepted.Reads as set-accepted-reads
-use Rattle.topic.proofs.is_valid_topic_name.Reads as is-valid-topic-name-reads
 
 -- src/calls.rt:38:9
 is-valid-topic-name-requires : tie.Need-is-valid-topic-name-requires

@@ -1,10 +1,8 @@
+-- `retain::calls::sweep_in` meets its contract. Assumes nothing.
 use Rattle.retain.proofs.KnownLaws.{lent-units, swept}
 use borrow.Author.Needs.{needs}
 use Rattle.retain.proofs.calls.sweep_in.Statement.{statement}
 use Rattle.retain.proofs.calls.sweep_in.Tie as tie
-use Rattle.retain.proofs.calls.sweep_in.Reads as reads
-use Rattle.retain.proofs.calls.sweep_in.Lts as lts
-use Rattle.sweep.proofs.remove_expired.Reads as remove-expired-reads
 
 -- src/calls.rt:54:9
 remove-expired-requires : tie.Need-remove-expired-requires

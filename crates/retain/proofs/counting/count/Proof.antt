@@ -1,12 +1,9 @@
+-- `retain::counting::count` meets its contract. Assumes nothing.
 use Rattle.edit.proofs.CountLaws.{no-count}
 use Rattle.retain.proofs.NamesCounted.{names-counted}
 use borrow.Author.Needs.{needs}
 use Rattle.retain.proofs.counting.count.Statement.{statement}
 use Rattle.retain.proofs.counting.count.Tie as tie
-use Rattle.retain.proofs.counting.count.Reads as reads
-use Rattle.retain.proofs.counting.count.Lts as lts
-use Rattle.audit.proofs.is_store.Reads as is-store-reads
-use Rattle.region.proofs.values_size.Reads as values-size-reads
 
 -- src/counting.rt:14:9
 is-store-requires : tie.Need-is-store-requires

@@ -1,13 +1,9 @@
+-- `retain::erasing::erase_accepted` meets its contract. Assumes nothing.
 use Rattle.edit.proofs.KnownPath.{units-told}
 use Rattle.retain.proofs.KnownLaws.{deep-absent, no-units-erases, accepted-size}
 use borrow.Author.Needs.{needs}
 use Rattle.retain.proofs.erasing.erase_accepted.Statement.{statement}
 use Rattle.retain.proofs.erasing.erase_accepted.Tie as tie
-use Rattle.retain.proofs.erasing.erase_accepted.Reads as reads
-use Rattle.retain.proofs.erasing.erase_accepted.Lts as lts
-use Rattle.level.proofs.level_count.Reads as level-count-reads
-use Rattle.region.proofs.shape_of.Reads as shape-of-reads
-use Rattle.retain.proofs.erasing.erase_in.Reads as erase-in-reads
 
 -- src/erasing.rt:61:14
 level-count-requires : tie.Need-level-count-requires

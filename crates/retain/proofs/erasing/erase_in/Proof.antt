@@ -1,11 +1,8 @@
+-- `retain::erasing::erase_in` meets its contract. Assumes nothing.
 use Rattle.retain.proofs.KnownLaws.{missing-absent}
 use borrow.Author.Needs.{needs}
 use Rattle.retain.proofs.erasing.erase_in.Statement.{statement}
 use Rattle.retain.proofs.erasing.erase_in.Tie as tie
-use Rattle.retain.proofs.erasing.erase_in.Reads as reads
-use Rattle.retain.proofs.erasing.erase_in.Lts as lts
-use Rattle.retain.proofs.erasing.erase_record.Reads as erase-record-reads
-use Rattle.seek.proofs.find_path.Reads as find-path-reads
 
 -- src/erasing.rt:49:9
 find-path-requires : tie.Need-find-path-requires

@@ -1,14 +1,9 @@
+-- `retain::erasing::erase_record` meets its contract. Assumes nothing.
 use Rattle.edit.proofs.AddLaws.{some-depth, last-below, last-under, nodes-under}
 use Rattle.retain.proofs.EraseLaws.{gone-broken, gone-absent, gone-path, gone-unit}
 use borrow.Author.Needs.{needs}
 use Rattle.retain.proofs.erasing.erase_record.Statement.{statement}
 use Rattle.retain.proofs.erasing.erase_record.Tie as tie
-use Rattle.retain.proofs.erasing.erase_record.Reads as reads
-use Rattle.retain.proofs.erasing.erase_record.Lts as lts
-use Rattle.edit.proofs.is_alone.Reads as is-alone-reads
-use Rattle.edit.proofs.take_path.Reads as take-path-reads
-use Rattle.edit.proofs.take_unit.Reads as take-unit-reads
-use Rattle.retain.proofs.slots.slot_of.Reads as slot-of-reads
 
 -- src/erasing.rt:29:16
 sub-last : tie.Need-sub-last

@@ -1,11 +1,8 @@
+-- `retain::paging::get_all_paginated` meets its contract. Assumes nothing.
 use Rattle.retain.proofs.LookLaws.{page-other, page-store}
 use borrow.Author.Needs.{needs}
 use Rattle.retain.proofs.paging.get_all_paginated.Statement.{statement}
 use Rattle.retain.proofs.paging.get_all_paginated.Tie as tie
-use Rattle.retain.proofs.paging.get_all_paginated.Reads as reads
-use Rattle.retain.proofs.paging.get_all_paginated.Lts as lts
-use Rattle.audit.proofs.is_store.Reads as is-store-reads
-use Rattle.retain.proofs.paging.get_all_paginated_known.Reads as get-all-paginated-known-reads
 
 -- src/paging.rt:63:9
 is-store-requires : tie.Need-is-store-requires

@@ -1,12 +1,9 @@
+-- `retain::paging::get_all_paginated_known` meets its contract. Assumes nothing.
 use Rattle.edit.proofs.KnownPath.{units-told}
 use Rattle.retain.proofs.LookLaws.{page-none}
 use borrow.Author.Needs.{needs}
 use Rattle.retain.proofs.paging.get_all_paginated_known.Statement.{statement}
 use Rattle.retain.proofs.paging.get_all_paginated_known.Tie as tie
-use Rattle.retain.proofs.paging.get_all_paginated_known.Reads as reads
-use Rattle.retain.proofs.paging.get_all_paginated_known.Lts as lts
-use Rattle.region.proofs.shape_of.Reads as shape-of-reads
-use Rattle.retain.proofs.paging.page_in.Reads as page-in-reads
 
 -- src/paging.rt:79:9
 shape-of-requires : tie.Need-shape-of-requires

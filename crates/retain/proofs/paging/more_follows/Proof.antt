@@ -1,9 +1,8 @@
+-- `retain::paging::more_follows` meets its contract. Assumes nothing.
 use Rattle.retain.proofs.LookLaws.{more-past, more-left}
 use borrow.Author.Needs.{needs}
 use Rattle.retain.proofs.paging.more_follows.Statement.{statement}
 use Rattle.retain.proofs.paging.more_follows.Tie as tie
-use Rattle.retain.proofs.paging.more_follows.Reads as reads
-use Rattle.retain.proofs.paging.more_follows.Lts as lts
 
 -- src/paging.rt:19:9
 returns : tie.Need-returns

@@ -1,13 +1,9 @@
+-- `retain::paging::page_in` meets its contract. Assumes nothing.
 use Rattle.retain.proofs.KnownLaws.{lent-units}
 use Rattle.retain.proofs.LookLaws.{page-short, page-given}
 use borrow.Author.Needs.{needs}
 use Rattle.retain.proofs.paging.page_in.Statement.{statement}
 use Rattle.retain.proofs.paging.page_in.Tie as tie
-use Rattle.retain.proofs.paging.page_in.Reads as reads
-use Rattle.retain.proofs.paging.page_in.Lts as lts
-use Rattle.lookup.proofs.measure.Reads as measure-reads
-use Rattle.pages.proofs.write_all.Reads as write-all-reads
-use Rattle.retain.proofs.paging.more_follows.Reads as more-follows-reads
 
 -- src/paging.rt:38:41
 slice-aggregate-measure : tie.Need-slice-aggregate-measure

@@ -1,13 +1,9 @@
+-- `retain::setting::set_accepted` meets its contract. Assumes nothing.
 use Rattle.edit.proofs.KnownPath.{units-told}
 use Rattle.retain.proofs.KnownLaws.{too-deep, no-units}
 use borrow.Author.Needs.{needs}
 use Rattle.retain.proofs.setting.set_accepted.Statement.{statement}
 use Rattle.retain.proofs.setting.set_accepted.Tie as tie
-use Rattle.retain.proofs.setting.set_accepted.Reads as reads
-use Rattle.retain.proofs.setting.set_accepted.Lts as lts
-use Rattle.level.proofs.level_count.Reads as level-count-reads
-use Rattle.region.proofs.shape_of.Reads as shape-of-reads
-use Rattle.retain.proofs.setting.set_in.Reads as set-in-reads
 
 -- src/setting.rt:77:14
 level-count-requires : tie.Need-level-count-requires

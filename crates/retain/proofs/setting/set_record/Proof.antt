@@ -1,14 +1,9 @@
+-- `retain::setting::set_record` meets its contract. Assumes nothing.
 use Rattle.edit.proofs.AddLaws.{some-depth, last-below, last-under}
 use Rattle.retain.proofs.SetLaws.{record-broken, record-over, record-added}
 use borrow.Author.Needs.{needs}
 use Rattle.retain.proofs.setting.set_record.Statement.{statement}
 use Rattle.retain.proofs.setting.set_record.Tie as tie
-use Rattle.retain.proofs.setting.set_record.Reads as reads
-use Rattle.retain.proofs.setting.set_record.Lts as lts
-use Rattle.edit.proofs.add_unit.Reads as add-unit-reads
-use Rattle.lent.proofs.copy_in.Reads as copy-in-reads
-use Rattle.retain.proofs.slots.slot_of.Reads as slot-of-reads
-use Rattle.retain.proofs.units.unit_of.Reads as unit-of-reads
 
 -- src/setting.rt:37:16
 sub-last : tie.Need-sub-last

@@ -1,10 +1,8 @@
+-- `retain::slots::slot_of` meets its contract. Assumes nothing.
 use Rattle.retain.proofs.SlotLaws.{slot-broken, slot-sound}
 use borrow.Author.Needs.{needs}
 use Rattle.retain.proofs.slots.slot_of.Statement.{statement}
 use Rattle.retain.proofs.slots.slot_of.Tie as tie
-use Rattle.retain.proofs.slots.slot_of.Reads as reads
-use Rattle.retain.proofs.slots.slot_of.Lts as lts
-use Rattle.forest.proofs.row_at.Reads as row-at-reads
 
 -- src/slots.rt:13:9
 row-at-requires : tie.Need-row-at-requires

@@ -1,11 +1,8 @@
+-- `retain::units::unit_of` meets its contract. Assumes nothing.
 use Rattle.retain.proofs.UnitLaws.{unit-never, unit-at}
 use borrow.Author.Needs.{needs}
 use Rattle.retain.proofs.units.unit_of.Statement.{statement}
 use Rattle.retain.proofs.units.unit_of.Tie as tie
-use Rattle.retain.proofs.units.unit_of.Reads as reads
-use Rattle.retain.proofs.units.unit_of.Lts as lts
-use Rattle.lent.proofs.put32.Reads as put32-reads
-use Rattle.lent.proofs.put64.Reads as put64-reads
 
 -- src/units.rt:14:17
 slice-aggregate-put32 : tie.Need-slice-aggregate-put32

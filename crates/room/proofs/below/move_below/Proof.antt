@@ -1,11 +1,9 @@
-use Prim.Native.Nat.{_+_, _-_}
+-- `room::below::move_below` meets its contract. Assumes nothing.
+use Prim.Native.Nat.{_-_}
 use Rattle.room.proofs.BelowLaws.{node-below, BelowLeft, below-begin, below-step, below-end}
 use borrow.Author.Needs.{needs}
 use Rattle.room.proofs.below.move_below.Statement.{statement}
 use Rattle.room.proofs.below.move_below.Tie as tie
-use Rattle.room.proofs.below.move_below.Reads as reads
-use Rattle.room.proofs.below.move_below.Lts as lts
-use Rattle.room.proofs.below.move_one.Reads as move-one-reads
 
 abbrev Inv-loop : tie.InvT-loop
 Inv-loop s₀ base count n more less nodes j₀ s j = BelowLeft more less base nodes count s₀ j s

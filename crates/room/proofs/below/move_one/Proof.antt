@@ -1,10 +1,8 @@
+-- `room::below::move_one` meets its contract. Assumes nothing.
 use Rattle.room.proofs.BelowLaws.{one-moved}
 use borrow.Author.Needs.{needs}
 use Rattle.room.proofs.below.move_one.Statement.{statement}
 use Rattle.room.proofs.below.move_one.Tie as tie
-use Rattle.room.proofs.below.move_one.Reads as reads
-use Rattle.room.proofs.below.move_one.Lts as lts
-use Rattle.room.proofs.counts.move_count.Reads as move-count-reads
 
 -- src/below.rt:15:34
 mul-move-count : tie.Need-mul-move-count

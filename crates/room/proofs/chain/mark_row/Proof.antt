@@ -1,10 +1,8 @@
+-- `room::chain::mark_row` meets its contract. Assumes nothing.
 use Rattle.room.proofs.RunLaws.{row-marked}
 use borrow.Author.Needs.{needs}
 use Rattle.room.proofs.chain.mark_row.Statement.{statement}
 use Rattle.room.proofs.chain.mark_row.Tie as tie
-use Rattle.room.proofs.chain.mark_row.Reads as reads
-use Rattle.room.proofs.chain.mark_row.Lts as lts
-use Rattle.lent.proofs.fill.Reads as fill-reads
 
 -- src/chain.rt:61:26
 cast-fill : tie.Need-cast-fill

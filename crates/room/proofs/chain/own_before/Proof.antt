@@ -1,9 +1,8 @@
+-- `room::chain::own_before` meets its contract. Assumes nothing.
 use Rattle.room.proofs.RunLaws.{own-last, own-more}
 use borrow.Author.Needs.{needs}
 use Rattle.room.proofs.chain.own_before.Statement.{statement}
 use Rattle.room.proofs.chain.own_before.Tie as tie
-use Rattle.room.proofs.chain.own_before.Reads as reads
-use Rattle.room.proofs.chain.own_before.Lts as lts
 
 -- src/chain.rt:29:1
 returns : tie.Need-returns

@@ -1,15 +1,10 @@
+-- `room::chain::put_marks` meets its contract. Assumes nothing.
 use Prim.Native.Nat.{_+_, _-_}
 use lib.ListN.{length}
-use Rattle.level.proofs.Split.{part-fits}
 use Rattle.room.proofs.RunLaws.{MarksLeft, marks-begin, marks-fit, depth-small, marks-step, marks-end}
 use borrow.Author.Needs.{needs}
 use Rattle.room.proofs.chain.put_marks.Statement.{statement}
 use Rattle.room.proofs.chain.put_marks.Tie as tie
-use Rattle.room.proofs.chain.put_marks.Reads as reads
-use Rattle.room.proofs.chain.put_marks.Lts as lts
-use Rattle.lent.proofs.fill.Reads as fill-reads
-use Rattle.level.proofs.part_at.Reads as part-at-reads
-use Rattle.room.proofs.chain.mark_row.Reads as mark-row-reads
 
 abbrev Inv-loop : tie.InvT-loop
 Inv-loop s₀ at text from units d i₀ p₀ depth₀ s i p depth = MarksLeft at text from d s₀ units i p depth s

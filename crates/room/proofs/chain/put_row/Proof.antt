@@ -1,12 +1,8 @@
+-- `room::chain::put_row` meets its contract. Assumes nothing.
 use Rattle.room.proofs.RunLaws.{row-put}
 use borrow.Author.Needs.{needs}
 use Rattle.room.proofs.chain.put_row.Statement.{statement}
 use Rattle.room.proofs.chain.put_row.Tie as tie
-use Rattle.room.proofs.chain.put_row.Reads as reads
-use Rattle.room.proofs.chain.put_row.Lts as lts
-use Rattle.lent.proofs.copy_in.Reads as copy-in-reads
-use Rattle.lent.proofs.fill.Reads as fill-reads
-use Rattle.lent.proofs.put16.Reads as put16-reads
 
 -- src/chain.rt:18:17
 add-fill : tie.Need-add-fill

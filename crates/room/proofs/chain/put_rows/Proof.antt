@@ -1,16 +1,10 @@
+-- `room::chain::put_rows` meets its contract. Assumes nothing.
 use Prim.Native.Nat.{_+_, _-_}
 use lib.ListN.{length}
-use Rattle.level.proofs.Split.{part-fits}
 use Rattle.room.proofs.RunLaws.{level-short, RowsLeft, rows-begin, row-within, own-within, row-fits, rows-step, rows-end}
 use borrow.Author.Needs.{needs}
 use Rattle.room.proofs.chain.put_rows.Statement.{statement}
 use Rattle.room.proofs.chain.put_rows.Tie as tie
-use Rattle.room.proofs.chain.put_rows.Reads as reads
-use Rattle.room.proofs.chain.put_rows.Lts as lts
-use Rattle.lent.proofs.copy_in.Reads as copy-in-reads
-use Rattle.level.proofs.part_at.Reads as part-at-reads
-use Rattle.room.proofs.chain.own_before.Reads as own-before-reads
-use Rattle.room.proofs.chain.put_row.Reads as put-row-reads
 
 abbrev Inv-loop : tie.InvT-loop
 Inv-loop s₀ base at text from units unit i₀ p₀ left₀ s i p left = RowsLeft base at unit text from s₀ units i p left s

@@ -1,13 +1,10 @@
+-- `room::chain::wanted_for` meets its contract. Assumes nothing.
 use Prim.Native.Nat.{_+_, _-_}
 use lib.ListN.{length}
-use Rattle.level.proofs.Split.{part-fits}
 use Rattle.room.proofs.RunLaws.{level-short, WantedLeft, wanted-begin, wanted-step, wanted-end, wanted-small}
 use borrow.Author.Needs.{needs}
 use Rattle.room.proofs.chain.wanted_for.Statement.{statement}
 use Rattle.room.proofs.chain.wanted_for.Tie as tie
-use Rattle.room.proofs.chain.wanted_for.Reads as reads
-use Rattle.room.proofs.chain.wanted_for.Lts as lts
-use Rattle.level.proofs.part_at.Reads as part-at-reads
 
 abbrev Inv-loop : tie.InvT-loop
 Inv-loop text from nodes₀ cells₀ units₀ p₀ nodes cells units p = WantedLeft text from nodes cells units p

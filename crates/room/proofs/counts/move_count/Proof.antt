@@ -1,12 +1,8 @@
+-- `room::counts::move_count` meets its contract. Assumes nothing.
 use Rattle.room.proofs.BelowLaws.{count-moved}
 use borrow.Author.Needs.{needs}
 use Rattle.room.proofs.counts.move_count.Statement.{statement}
 use Rattle.room.proofs.counts.move_count.Tie as tie
-use Rattle.room.proofs.counts.move_count.Reads as reads
-use Rattle.room.proofs.counts.move_count.Lts as lts
-use Rattle.lent.proofs.get16.Reads as get16-reads
-use Rattle.lent.proofs.put16.Reads as put16-reads
-use Rattle.room.proofs.counts.moved_by.Reads as moved-by-reads
 
 -- src/counts.rt:20:9
 get16-requires : tie.Need-get16-requires

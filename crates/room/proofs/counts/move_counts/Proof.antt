@@ -1,10 +1,8 @@
+-- `room::counts::move_counts` meets its contract. Assumes nothing.
 use Rattle.room.proofs.BelowLaws.{counts-moved}
 use borrow.Author.Needs.{needs}
 use Rattle.room.proofs.counts.move_counts.Statement.{statement}
 use Rattle.room.proofs.counts.move_counts.Tie as tie
-use Rattle.room.proofs.counts.move_counts.Reads as reads
-use Rattle.room.proofs.counts.move_counts.Lts as lts
-use Rattle.room.proofs.counts.move_count.Reads as move-count-reads
 
 -- src/counts.rt:29:5
 move-count-requires : tie.Need-move-count-requires

@@ -1,10 +1,8 @@
+-- `room::cut::is_lone` meets its contract. Assumes nothing.
 use Rattle.room.proofs.StayLaws.{lone-past, lone-end, lone-own}
 use borrow.Author.Needs.{needs}
 use Rattle.room.proofs.cut.is_lone.Statement.{statement}
 use Rattle.room.proofs.cut.is_lone.Tie as tie
-use Rattle.room.proofs.cut.is_lone.Reads as reads
-use Rattle.room.proofs.cut.is_lone.Lts as lts
-use Rattle.forest.proofs.row_at.Reads as row-at-reads
 
 -- src/cut.rt:14:9
 row-at-requires : tie.Need-row-at-requires

@@ -1,11 +1,9 @@
+-- `room::cut::stay` meets its contract. Assumes nothing.
 use Rattle.room.proofs.BelowLaws.{node-below}
 use Rattle.room.proofs.StayLaws.{stay-begin, stay-again, stay-stop, StayLeft, stay-end, node-before}
 use borrow.Author.Needs.{needs}
 use Rattle.room.proofs.cut.stay.Statement.{statement}
 use Rattle.room.proofs.cut.stay.Tie as tie
-use Rattle.room.proofs.cut.stay.Reads as reads
-use Rattle.room.proofs.cut.stay.Lts as lts
-use Rattle.room.proofs.cut.is_lone.Reads as is-lone-reads
 
 abbrev Inv-loop : tie.InvT-loop
 Inv-loop s base n depth nodes c₀ c = StayLeft base s n nodes depth c

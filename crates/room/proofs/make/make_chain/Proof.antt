@@ -1,11 +1,8 @@
+-- `room::make::make_chain` meets its contract. Assumes nothing.
 use Rattle.room.proofs.MakeLaws.{chain-made}
 use borrow.Author.Needs.{needs}
 use Rattle.room.proofs.make.make_chain.Statement.{statement}
 use Rattle.room.proofs.make.make_chain.Tie as tie
-use Rattle.room.proofs.make.make_chain.Reads as reads
-use Rattle.room.proofs.make.make_chain.Lts as lts
-use Rattle.room.proofs.counts.move_counts.Reads as move-counts-reads
-use Rattle.room.proofs.make.make_run.Reads as make-run-reads
 
 -- src/make.rt:57:5
 make-run-requires : tie.Need-make-run-requires

@@ -1,13 +1,8 @@
+-- `room::make::make_run` meets its contract. Assumes nothing.
 use Rattle.room.proofs.MakeLaws.{run-made}
 use borrow.Author.Needs.{needs}
 use Rattle.room.proofs.make.make_run.Statement.{statement}
 use Rattle.room.proofs.make.make_run.Tie as tie
-use Rattle.room.proofs.make.make_run.Reads as reads
-use Rattle.room.proofs.make.make_run.Lts as lts
-use Rattle.lent.proofs.open_gap.Reads as open-gap-reads
-use Rattle.room.proofs.below.move_below.Reads as move-below-reads
-use Rattle.room.proofs.chain.put_marks.Reads as put-marks-reads
-use Rattle.room.proofs.chain.put_rows.Reads as put-rows-reads
 
 -- src/make.rt:32:5
 move-below-requires : tie.Need-move-below-requires

@@ -1,13 +1,8 @@
+-- `room::make::make_unit` meets its contract. Assumes nothing.
 use Rattle.room.proofs.MakeLaws.{unit-made}
 use borrow.Author.Needs.{needs}
 use Rattle.room.proofs.make.make_unit.Statement.{statement}
 use Rattle.room.proofs.make.make_unit.Tie as tie
-use Rattle.room.proofs.make.make_unit.Reads as reads
-use Rattle.room.proofs.make.make_unit.Lts as lts
-use Rattle.room.proofs.below.move_below.Reads as move-below-reads
-use Rattle.room.proofs.counts.add_pair.Reads as add-pair-reads
-use Rattle.room.proofs.counts.move_count.Reads as move-count-reads
-use Rattle.room.proofs.make.put_between.Reads as put-between-reads
 
 -- src/make.rt:92:5
 move-below-requires : tie.Need-move-below-requires

@@ -1,12 +1,8 @@
+-- `room::make::put_between` meets its contract. Assumes nothing.
 use Rattle.room.proofs.MakeLaws.{unit-between}
 use borrow.Author.Needs.{needs}
 use Rattle.room.proofs.make.put_between.Statement.{statement}
 use Rattle.room.proofs.make.put_between.Tie as tie
-use Rattle.room.proofs.make.put_between.Reads as reads
-use Rattle.room.proofs.make.put_between.Lts as lts
-use Rattle.lent.proofs.copy_in.Reads as copy-in-reads
-use Rattle.lent.proofs.fill.Reads as fill-reads
-use Rattle.lent.proofs.open_gap.Reads as open-gap-reads
 
 -- src/make.rt:72:30
 mul-open-gap : tie.Need-mul-open-gap

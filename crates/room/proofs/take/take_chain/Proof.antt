@@ -1,11 +1,8 @@
+-- `room::take::take_chain` meets its contract. Assumes nothing.
 use Rattle.room.proofs.MakeLaws.{chain-taken}
 use borrow.Author.Needs.{needs}
 use Rattle.room.proofs.take.take_chain.Statement.{statement}
 use Rattle.room.proofs.take.take_chain.Tie as tie
-use Rattle.room.proofs.take.take_chain.Reads as reads
-use Rattle.room.proofs.take.take_chain.Lts as lts
-use Rattle.room.proofs.counts.move_counts.Reads as move-counts-reads
-use Rattle.room.proofs.take.take_run.Reads as take-run-reads
 
 -- src/take.rt:27:5
 take-run-requires : tie.Need-take-run-requires

@@ -1,11 +1,8 @@
+-- `room::take::take_run` meets its contract. Assumes nothing.
 use Rattle.room.proofs.MakeLaws.{run-taken}
 use borrow.Author.Needs.{needs}
 use Rattle.room.proofs.take.take_run.Statement.{statement}
 use Rattle.room.proofs.take.take_run.Tie as tie
-use Rattle.room.proofs.take.take_run.Reads as reads
-use Rattle.room.proofs.take.take_run.Lts as lts
-use Rattle.lent.proofs.close_gap.Reads as close-gap-reads
-use Rattle.room.proofs.below.move_below.Reads as move-below-reads
 
 -- src/take.rt:16:5
 move-below-requires : tie.Need-move-below-requires

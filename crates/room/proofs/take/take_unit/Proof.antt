@@ -1,12 +1,8 @@
+-- `room::take::take_unit` meets its contract. Assumes nothing.
 use Rattle.room.proofs.MakeLaws.{unit-taken}
 use borrow.Author.Needs.{needs}
 use Rattle.room.proofs.take.take_unit.Statement.{statement}
 use Rattle.room.proofs.take.take_unit.Tie as tie
-use Rattle.room.proofs.take.take_unit.Reads as reads
-use Rattle.room.proofs.take.take_unit.Lts as lts
-use Rattle.room.proofs.counts.move_count.Reads as move-count-reads
-use Rattle.room.proofs.counts.take_pair.Reads as take-pair-reads
-use Rattle.room.proofs.take.take_run.Reads as take-run-reads
 
 -- src/take.rt:42:34
 mul-move-count : tie.Need-mul-move-count

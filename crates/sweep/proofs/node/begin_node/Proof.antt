@@ -3,12 +3,6 @@ use Rattle.sweep.proofs.RowLaws.{row-begun}
 use borrow.Author.Needs.{needs}
 use Rattle.sweep.proofs.node.begin_node.Statement.{statement}
 use Rattle.sweep.proofs.node.begin_node.Tie as tie
-use Rattle.sweep.proofs.node.begin_node.Reads as reads
-use Rattle.sweep.proofs.node.begin_node.Lts as lts
-use Rattle.sweep.proofs.node.smaller.Reads as smaller-reads
-use Rattle.sweep.proofs.row.cells_at.Reads as cells-at-reads
-use Rattle.sweep.proofs.row.move_row.Reads as move-row-reads
-use Rattle.sweep.proofs.row.record_stays.Reads as record-stays-reads
 
 add-smaller : tie.Need-add-smaller
 add-smaller c = search needs

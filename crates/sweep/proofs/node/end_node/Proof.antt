@@ -3,9 +3,6 @@ use Rattle.sweep.proofs.RowLaws.{ended-gone, ended-on}
 use borrow.Author.Needs.{needs}
 use Rattle.sweep.proofs.node.end_node.Statement.{statement}
 use Rattle.sweep.proofs.node.end_node.Tie as tie
-use Rattle.sweep.proofs.node.end_node.Reads as reads
-use Rattle.sweep.proofs.node.end_node.Lts as lts
-use Rattle.sweep.proofs.row.put_head.Reads as put-head-reads
 
 add-under : tie.Need-add-under
 add-under c = search needs

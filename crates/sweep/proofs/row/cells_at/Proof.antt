@@ -4,10 +4,6 @@ use Rattle.sweep.proofs.RowLaws.{level-few, cells-level}
 use borrow.Author.Needs.{needs}
 use Rattle.sweep.proofs.row.cells_at.Statement.{statement}
 use Rattle.sweep.proofs.row.cells_at.Tie as tie
-use Rattle.sweep.proofs.row.cells_at.Reads as reads
-use Rattle.sweep.proofs.row.cells_at.Lts as lts
-use Rattle.forest.proofs.level_at.Reads as level-at-reads
-use Rattle.region.proofs.cells_of.Reads as cells-of-reads
 
 level-at-requires : tie.Need-level-at-requires
 level-at-requires c κs = search needs

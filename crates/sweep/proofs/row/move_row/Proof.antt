@@ -3,10 +3,6 @@ use Rattle.sweep.proofs.RowLaws.{row-moved}
 use borrow.Author.Needs.{needs}
 use Rattle.sweep.proofs.row.move_row.Statement.{statement}
 use Rattle.sweep.proofs.row.move_row.Tie as tie
-use Rattle.sweep.proofs.row.move_row.Reads as reads
-use Rattle.sweep.proofs.row.move_row.Lts as lts
-use Rattle.lent.proofs.close_gap.Reads as close-gap-reads
-use Rattle.lent.proofs.fill.Reads as fill-reads
 
 mul-at : tie.Need-mul-at
 mul-at c = search needs

@@ -3,9 +3,6 @@ use Rattle.sweep.proofs.RowLaws.{head-put}
 use borrow.Author.Needs.{needs}
 use Rattle.sweep.proofs.row.put_head.Statement.{statement}
 use Rattle.sweep.proofs.row.put_head.Tie as tie
-use Rattle.sweep.proofs.row.put_head.Reads as reads
-use Rattle.sweep.proofs.row.put_head.Lts as lts
-use Rattle.lent.proofs.put16.Reads as put16-reads
 
 add-put16 : tie.Need-add-put16
 add-put16 c = search needs

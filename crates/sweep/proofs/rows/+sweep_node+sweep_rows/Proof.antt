@@ -1,6 +1,5 @@
 -- `sweep::rows::sweep_node` and `sweep::rows::sweep_rows`, which call each other, meet their contracts: the depth grows up to
 -- 129. Assumes nothing.
-use native.Mathlib.Omega.{arith}
 use denote.Ref.{now}
 use Rattle.sweep.specs.Swept.{SweptTo}
 use Rattle.sweep.proofs.NodeLaws.{node-swept}

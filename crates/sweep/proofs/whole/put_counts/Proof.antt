@@ -3,9 +3,6 @@ use Rattle.sweep.proofs.CountLaws.{counts-put}
 use borrow.Author.Needs.{needs}
 use Rattle.sweep.proofs.whole.put_counts.Statement.{statement}
 use Rattle.sweep.proofs.whole.put_counts.Tie as tie
-use Rattle.sweep.proofs.whole.put_counts.Reads as reads
-use Rattle.sweep.proofs.whole.put_counts.Lts as lts
-use Rattle.lent.proofs.put16.Reads as put16-reads
 
 put16-requires : tie.Need-put16-requires
 put16-requires c κs = search needs

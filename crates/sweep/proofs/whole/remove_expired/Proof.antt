@@ -3,12 +3,6 @@ use Rattle.sweep.proofs.WholeLaws.{removed-all}
 use borrow.Author.Needs.{needs}
 use Rattle.sweep.proofs.whole.remove_expired.Statement.{statement}
 use Rattle.sweep.proofs.whole.remove_expired.Tie as tie
-use Rattle.sweep.proofs.whole.remove_expired.Reads as reads
-use Rattle.sweep.proofs.whole.remove_expired.Lts as lts
-use Rattle.lent.proofs.get16.Reads as get16-reads
-use Rattle.sweep.proofs.rows.sweep_rows.Reads as sweep-rows-reads
-use Rattle.sweep.proofs.whole.gone.Reads as gone-reads
-use Rattle.sweep.proofs.whole.put_counts.Reads as put-counts-reads
 
 get16-requires : tie.Need-get16-requires
 get16-requires c κs = search needs

@@ -1,11 +1,8 @@
+-- `trie::asking::is_match` meets its contract. Assumes nothing.
 use Rattle.trie.proofs.AskLaws.{ask-other, ask-store}
 use borrow.Author.Needs.{needs}
 use Rattle.trie.proofs.asking.is_match.Statement.{statement}
 use Rattle.trie.proofs.asking.is_match.Tie as tie
-use Rattle.trie.proofs.asking.is_match.Reads as reads
-use Rattle.trie.proofs.asking.is_match.Lts as lts
-use Rattle.audit.proofs.is_store.Reads as is-store-reads
-use Rattle.trie.proofs.asking.is_match_known.Reads as is-match-known-reads
 
 -- src/asking.rt:47:9
 is-store-requires : tie.Need-is-store-requires

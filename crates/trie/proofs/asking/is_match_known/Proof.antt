@@ -1,12 +1,9 @@
+-- `trie::asking::is_match_known` meets its contract. Assumes nothing.
 use Rattle.edit.proofs.StepLaws.{text-accepted}
 use Rattle.trie.proofs.AskLaws.{ask-refused}
 use borrow.Author.Needs.{needs}
 use Rattle.trie.proofs.asking.is_match_known.Statement.{statement}
 use Rattle.trie.proofs.asking.is_match_known.Tie as tie
-use Rattle.trie.proofs.asking.is_match_known.Reads as reads
-use Rattle.trie.proofs.asking.is_match_known.Lts as lts
-use Rattle.topic.proofs.is_valid_topic_name.Reads as is-valid-topic-name-reads
-use Rattle.trie.proofs.asking.is_match_accepted.Reads as is-match-accepted-reads
 
 -- src/asking.rt:57:9
 is-valid-topic-name-requires : tie.Need-is-valid-topic-name-requires

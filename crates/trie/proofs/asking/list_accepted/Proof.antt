@@ -1,12 +1,9 @@
+-- `trie::asking::list_accepted` meets its contract. Assumes nothing.
 use Rattle.edit.proofs.KnownPath.{units-told}
 use Rattle.trie.proofs.AskLaws.{list-none}
 use borrow.Author.Needs.{needs}
 use Rattle.trie.proofs.asking.list_accepted.Statement.{statement}
 use Rattle.trie.proofs.asking.list_accepted.Tie as tie
-use Rattle.trie.proofs.asking.list_accepted.Reads as reads
-use Rattle.trie.proofs.asking.list_accepted.Lts as lts
-use Rattle.region.proofs.shape_of.Reads as shape-of-reads
-use Rattle.trie.proofs.asking.list_in.Reads as list-in-reads
 
 -- src/asking.rt:84:9
 shape-of-requires : tie.Need-shape-of-requires

@@ -1,12 +1,8 @@
+-- `trie::asking::list_in` meets its contract. Assumes nothing.
 use Rattle.trie.proofs.AskLaws.{list-at-once}
 use borrow.Author.Needs.{needs}
 use Rattle.trie.proofs.asking.list_in.Statement.{statement}
 use Rattle.trie.proofs.asking.list_in.Tie as tie
-use Rattle.trie.proofs.asking.list_in.Reads as reads
-use Rattle.trie.proofs.asking.list_in.Lts as lts
-use Rattle.listing.proofs.write_all.Reads as write-all-reads
-use Rattle.trie.proofs.asking.list_measured.Reads as list-measured-reads
-use Rattle.walk.proofs.most_bytes.Reads as most-bytes-reads
 
 -- src/asking.rt:97:9
 list-measured-requires : tie.Need-list-measured-requires

@@ -1,11 +1,8 @@
+-- `trie::asking::list_measured` meets its contract. Assumes nothing.
 use Rattle.trie.proofs.AskLaws.{list-empty, list-short, list-given}
 use borrow.Author.Needs.{needs}
 use Rattle.trie.proofs.asking.list_measured.Statement.{statement}
 use Rattle.trie.proofs.asking.list_measured.Tie as tie
-use Rattle.trie.proofs.asking.list_measured.Reads as reads
-use Rattle.trie.proofs.asking.list_measured.Lts as lts
-use Rattle.listing.proofs.write_all.Reads as write-all-reads
-use Rattle.walk.proofs.measure.Reads as measure-reads
 
 -- src/asking.rt:69:9
 measure-requires : tie.Need-measure-requires

@@ -1,11 +1,8 @@
+-- `trie::asking::matches` meets its contract. Assumes nothing.
 use Rattle.trie.proofs.AskLaws.{list-other, list-store}
 use borrow.Author.Needs.{needs}
 use Rattle.trie.proofs.asking.matches.Statement.{statement}
 use Rattle.trie.proofs.asking.matches.Tie as tie
-use Rattle.trie.proofs.asking.matches.Reads as reads
-use Rattle.trie.proofs.asking.matches.Lts as lts
-use Rattle.audit.proofs.is_store.Reads as is-store-reads
-use Rattle.trie.proofs.asking.matches_known.Reads as matches-known-reads
 
 -- src/asking.rt:95:9
 is-store-requires : tie.Need-is-store-requires

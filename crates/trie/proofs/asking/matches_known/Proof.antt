@@ -1,12 +1,9 @@
+-- `trie::asking::matches_known` meets its contract. Assumes nothing.
 use Rattle.edit.proofs.StepLaws.{text-accepted}
 use Rattle.trie.proofs.AskLaws.{list-refused, name-size}
 use borrow.Author.Needs.{needs}
 use Rattle.trie.proofs.asking.matches_known.Statement.{statement}
 use Rattle.trie.proofs.asking.matches_known.Tie as tie
-use Rattle.trie.proofs.asking.matches_known.Reads as reads
-use Rattle.trie.proofs.asking.matches_known.Lts as lts
-use Rattle.topic.proofs.is_valid_topic_name.Reads as is-valid-topic-name-reads
-use Rattle.trie.proofs.asking.list_accepted.Reads as list-accepted-reads
 
 -- src/asking.rt:105:9
 is-valid-topic-name-requires : tie.Need-is-valid-topic-name-requires

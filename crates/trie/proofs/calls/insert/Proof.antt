@@ -1,12 +1,9 @@
+-- `trie::calls::insert` meets its contract. Assumes nothing.
 use Rattle.trie.specs.Calls.{subscriptionStore}
 use Rattle.edit.proofs.CallLaws.{not-a-store, store-does}
 use borrow.Author.Needs.{needs}
 use Rattle.trie.proofs.calls.insert.Statement.{statement}
 use Rattle.trie.proofs.calls.insert.Tie as tie
-use Rattle.trie.proofs.calls.insert.Reads as reads
-use Rattle.trie.proofs.calls.insert.Lts as lts
-use Rattle.audit.proofs.is_store.Reads as is-store-reads
-use Rattle.trie.proofs.calls.insert_known.Reads as insert-known-reads
 
 -- src/calls.rt:19:9
 is-store-requires : tie.Need-is-store-requires

@@ -1,12 +1,9 @@
+-- `trie::calls::remove` meets its contract. Assumes nothing.
 use Rattle.trie.specs.Calls.{subscriptionStore}
 use Rattle.edit.proofs.CallLaws.{not-a-store, store-does}
 use borrow.Author.Needs.{needs}
 use Rattle.trie.proofs.calls.remove.Statement.{statement}
 use Rattle.trie.proofs.calls.remove.Tie as tie
-use Rattle.trie.proofs.calls.remove.Reads as reads
-use Rattle.trie.proofs.calls.remove.Lts as lts
-use Rattle.audit.proofs.is_store.Reads as is-store-reads
-use Rattle.trie.proofs.calls.remove_known.Reads as remove-known-reads
 
 -- src/calls.rt:40:9
 is-store-requires : tie.Need-is-store-requires

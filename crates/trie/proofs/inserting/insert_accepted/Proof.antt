@@ -1,13 +1,9 @@
+-- `trie::inserting::insert_accepted` meets its contract. Assumes nothing.
 use Rattle.edit.proofs.KnownPath.{units-told}
 use Rattle.trie.proofs.KnownLaws.{too-deep, no-units}
 use borrow.Author.Needs.{needs}
 use Rattle.trie.proofs.inserting.insert_accepted.Statement.{statement}
 use Rattle.trie.proofs.inserting.insert_accepted.Tie as tie
-use Rattle.trie.proofs.inserting.insert_accepted.Reads as reads
-use Rattle.trie.proofs.inserting.insert_accepted.Lts as lts
-use Rattle.level.proofs.level_count.Reads as level-count-reads
-use Rattle.region.proofs.shape_of.Reads as shape-of-reads
-use Rattle.trie.proofs.inserting.insert_in.Reads as insert-in-reads
 
 -- src/inserting.rt:66:14
 level-count-requires : tie.Need-level-count-requires

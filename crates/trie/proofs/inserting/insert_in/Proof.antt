@@ -1,14 +1,9 @@
+-- `trie::inserting::insert_in` meets its contract. Assumes nothing.
 use Rattle.trie.proofs.KnownLaws.{accepted-size}
 use Rattle.trie.proofs.InsertLaws.{chain-does}
 use borrow.Author.Needs.{needs}
 use Rattle.trie.proofs.inserting.insert_in.Statement.{statement}
 use Rattle.trie.proofs.inserting.insert_in.Tie as tie
-use Rattle.trie.proofs.inserting.insert_in.Reads as reads
-use Rattle.trie.proofs.inserting.insert_in.Lts as lts
-use Rattle.edit.proofs.add_chain.Reads as add-chain-reads
-use Rattle.seek.proofs.find_path.Reads as find-path-reads
-use Rattle.trie.proofs.inserting.insert_value.Reads as insert-value-reads
-use Rattle.trie.proofs.values.unit_of.Reads as unit-of-reads
 
 -- src/inserting.rt:53:9
 find-path-requires : tie.Need-find-path-requires

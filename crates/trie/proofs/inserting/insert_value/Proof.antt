@@ -1,13 +1,9 @@
+-- `trie::inserting::insert_value` meets its contract. Assumes nothing.
 use Rattle.edit.proofs.AddLaws.{some-depth, last-below, last-under}
 use Rattle.trie.proofs.InsertLaws.{value-broken, value-there, value-added}
 use borrow.Author.Needs.{needs}
 use Rattle.trie.proofs.inserting.insert_value.Statement.{statement}
 use Rattle.trie.proofs.inserting.insert_value.Tie as tie
-use Rattle.trie.proofs.inserting.insert_value.Reads as reads
-use Rattle.trie.proofs.inserting.insert_value.Lts as lts
-use Rattle.edit.proofs.add_unit.Reads as add-unit-reads
-use Rattle.trie.proofs.slots.slot_of.Reads as slot-of-reads
-use Rattle.trie.proofs.values.unit_of.Reads as unit-of-reads
 
 -- src/inserting.rt:35:16
 sub-last : tie.Need-sub-last

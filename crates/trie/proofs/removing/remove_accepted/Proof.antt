@@ -1,13 +1,9 @@
+-- `trie::removing::remove_accepted` meets its contract. Assumes nothing.
 use Rattle.edit.proofs.KnownPath.{units-told}
 use Rattle.trie.proofs.KnownLaws.{deep-absent, no-units, accepted-size}
 use borrow.Author.Needs.{needs}
 use Rattle.trie.proofs.removing.remove_accepted.Statement.{statement}
 use Rattle.trie.proofs.removing.remove_accepted.Tie as tie
-use Rattle.trie.proofs.removing.remove_accepted.Reads as reads
-use Rattle.trie.proofs.removing.remove_accepted.Lts as lts
-use Rattle.level.proofs.level_count.Reads as level-count-reads
-use Rattle.region.proofs.shape_of.Reads as shape-of-reads
-use Rattle.trie.proofs.removing.remove_in.Reads as remove-in-reads
 
 -- src/removing.rt:67:14
 level-count-requires : tie.Need-level-count-requires

@@ -1,11 +1,8 @@
+-- `trie::removing::remove_in` meets its contract. Assumes nothing.
 use Rattle.trie.proofs.KnownLaws.{missing-absent}
 use borrow.Author.Needs.{needs}
 use Rattle.trie.proofs.removing.remove_in.Statement.{statement}
 use Rattle.trie.proofs.removing.remove_in.Tie as tie
-use Rattle.trie.proofs.removing.remove_in.Reads as reads
-use Rattle.trie.proofs.removing.remove_in.Lts as lts
-use Rattle.seek.proofs.find_path.Reads as find-path-reads
-use Rattle.trie.proofs.removing.remove_value.Reads as remove-value-reads
 
 -- src/removing.rt:55:9
 find-path-requires : tie.Need-find-path-requires

@@ -1,14 +1,9 @@
+-- `trie::removing::remove_value` meets its contract. Assumes nothing.
 use Rattle.edit.proofs.AddLaws.{some-depth, last-below, last-under, nodes-under}
 use Rattle.trie.proofs.RemoveLaws.{gone-broken, gone-absent, gone-path, gone-unit}
 use borrow.Author.Needs.{needs}
 use Rattle.trie.proofs.removing.remove_value.Statement.{statement}
 use Rattle.trie.proofs.removing.remove_value.Tie as tie
-use Rattle.trie.proofs.removing.remove_value.Reads as reads
-use Rattle.trie.proofs.removing.remove_value.Lts as lts
-use Rattle.edit.proofs.is_alone.Reads as is-alone-reads
-use Rattle.edit.proofs.take_path.Reads as take-path-reads
-use Rattle.edit.proofs.take_unit.Reads as take-unit-reads
-use Rattle.trie.proofs.slots.slot_of.Reads as slot-of-reads
 
 -- src/removing.rt:35:16
 sub-last : tie.Need-sub-last

@@ -1,12 +1,9 @@
+-- `trie::sizes::nodes_size` meets its contract. Assumes nothing.
 use Rattle.edit.proofs.CountLaws.{no-count}
 use borrow.Author.Needs.{needs}
 use Rattle.trie.proofs.SizeLaws.{nodes-counted}
 use Rattle.trie.proofs.sizes.nodes_size.Statement.{statement}
 use Rattle.trie.proofs.sizes.nodes_size.Tie as tie
-use Rattle.trie.proofs.sizes.nodes_size.Reads as reads
-use Rattle.trie.proofs.sizes.nodes_size.Lts as lts
-use Rattle.audit.proofs.is_store.Reads as is-store-reads
-use Rattle.region.proofs.nodes_size.Reads as nodes-size-reads
 
 -- src/sizes.rt:14:9
 is-store-requires : tie.Need-is-store-requires

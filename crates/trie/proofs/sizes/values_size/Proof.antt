@@ -1,12 +1,9 @@
+-- `trie::sizes::values_size` meets its contract. Assumes nothing.
 use Rattle.edit.proofs.CountLaws.{no-count}
 use borrow.Author.Needs.{needs}
 use Rattle.trie.proofs.SizeLaws.{values-counted}
 use Rattle.trie.proofs.sizes.values_size.Statement.{statement}
 use Rattle.trie.proofs.sizes.values_size.Tie as tie
-use Rattle.trie.proofs.sizes.values_size.Reads as reads
-use Rattle.trie.proofs.sizes.values_size.Lts as lts
-use Rattle.audit.proofs.is_store.Reads as is-store-reads
-use Rattle.region.proofs.values_size.Reads as values-size-reads
 
 -- src/sizes.rt:23:9
 is-store-requires : tie.Need-is-store-requires

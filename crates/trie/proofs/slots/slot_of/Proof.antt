@@ -1,11 +1,8 @@
+-- `trie::slots::slot_of` meets its contract. Assumes nothing.
 use Rattle.trie.proofs.SlotLaws.{slot-broken, slot-sound}
 use borrow.Author.Needs.{needs}
 use Rattle.trie.proofs.slots.slot_of.Statement.{statement}
 use Rattle.trie.proofs.slots.slot_of.Tie as tie
-use Rattle.trie.proofs.slots.slot_of.Reads as reads
-use Rattle.trie.proofs.slots.slot_of.Lts as lts
-use Rattle.forest.proofs.row_at.Reads as row-at-reads
-use Rattle.trie.proofs.values.find_value.Reads as find-value-reads
 
 -- src/slots.rt:14:9
 row-at-requires : tie.Need-row-at-requires

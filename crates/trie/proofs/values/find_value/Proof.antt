@@ -1,12 +1,9 @@
-use Rattle.trie.proofs.SpotLaws.{spot-begin, spot-before, spot-found, spot-again, spot-end}
-use Rattle.trie.proofs.SpotLaws.{SpotLeft}
+-- `trie::values::find_value` meets its contract. Assumes nothing.
+use Rattle.trie.proofs.SpotLaws.{spot-begin, spot-before, spot-found, spot-again, spot-end, SpotLeft}
 use Prim.Native.Nat.{_-_}
 use borrow.Author.Needs.{needs}
 use Rattle.trie.proofs.values.find_value.Statement.{statement}
 use Rattle.trie.proofs.values.find_value.Tie as tie
-use Rattle.trie.proofs.values.find_value.Reads as reads
-use Rattle.trie.proofs.values.find_value.Lts as lts
-use Rattle.lent.proofs.get32.Reads as get32-reads
 
 abbrev Inv-loop : tie.InvT-loop
 Inv-loop s base i own value wanted k₀ k = SpotLeft base s i own value k

@@ -1,10 +1,8 @@
+-- `trie::values::unit_of` meets its contract. Assumes nothing.
 use Rattle.trie.proofs.SpotLaws.{unit-is}
 use borrow.Author.Needs.{needs}
 use Rattle.trie.proofs.values.unit_of.Statement.{statement}
 use Rattle.trie.proofs.values.unit_of.Tie as tie
-use Rattle.trie.proofs.values.unit_of.Reads as reads
-use Rattle.trie.proofs.values.unit_of.Lts as lts
-use Rattle.trie.proofs.values.byte.Reads as byte-reads
 
 -- src/values.rt:45:9
 byte-requires : tie.Need-byte-requires
