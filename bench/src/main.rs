@@ -17,6 +17,7 @@ mod read;
 mod rust;
 mod store;
 mod table;
+mod texts;
 mod timing;
 mod workloads;
 
@@ -61,4 +62,5 @@ fn main() {
     }
     table::print(&rows);
     names::run(&effort);
+    texts::run(&effort);
 }
