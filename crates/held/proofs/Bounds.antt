@@ -2,7 +2,7 @@
 use mathlib.Core.Path.{_≡_, refl, sym}
 use Prim.Native.Nat.{ℕ, zero, suc, _≤_, _<_}
 use mathlib.Core.Bool.{Bool, true, false, not, cond, _&&_, true≢false}
-use mathlib.Core.List.{List, [], _∷_, _++_, map}
+use mathlib.Core.List.{List, [], _∷_, _++_}
 use mathlib.Core.Option.{Option, none, some}
 use borrow.Author.Tests.{ltb-true, leb-true, leb-false}
 use lib.Dec.{ltb, leb}
@@ -15,14 +15,15 @@ use Rattle.topic.specs.Match.{match47}
 use Rattle.topic.specs.Rules.{Rule, nameRules, filterRules}
 use Rattle.topic.specs.declared.Checked.{Checked}
 use Rattle.topic.specs.declared.Checked.the-variants.{Accepted, Refused}
-use Rattle.held.specs.Order.{Filter, sameFilter, filterLt, samePair, pairLt, listingLt}
+use Rattle.held.specs.Order.{Filter, sameFilter, filterLt, samePair, pairLt}
 use Rattle.held.specs.Ascending.{All, keep}
 use Rattle.held.specs.Room.{Room, upTo, inRange, roomRules, depthRule}
 use Rattle.held.specs.History.{verdict, accepted, run}
 use Rattle.held.specs.Subscriptions.{Pair, AscPairs, isHeld, insertHeld, removeHeld, Call, insert, remove, subscriptions, pairOf, valuesOf, listing}
 use Rattle.held.specs.Retained.{Named, setHeld, eraseHeld, expired, unexpired, sweepHeld, Call as Change, set, sweep, retained, lookup, left, all, page}
 use Rattle.held.proofs.Orders.{and-left, and-right}
-use Rattle.held.proofs.Entries.{all-keep, all-put, all-sort, all-map, all-with, all-take, all-drop}
+use Rattle.held.proofs.Entries.{all-keep, all-put, all-map, all-with, all-take, all-drop}
+use Rattle.held.proofs.Listing.{listing-all}
 use Rattle.held.proofs.Texts.{filter-written, name-written}
 use Rattle.held.proofs.HeldLaws.{pairs-insert, pairs-remove}
 use Rattle.held.proofs.RoomLaws.{room-within}
@@ -51,13 +52,9 @@ module _ (h : List Pair) (sized : All SizedPair h) (few : length h ≤ 8192) whe
   values-few f = simp length-map (omega (arith, length-keep (λ p. sameFilter f (p .0)) h))
 
   pub listing-sized : (n : Filter) → All SizedRecord (listing n h)
-  unfolding listing
   listing-sized n =
-      all-sort SizedRecord listingLt (λ r. r .0) (keep (λ r. match47 (r .0) n) (map (λ p. (p .0, valuesOf (p .0) h)) h))
-      (all-keep SizedRecord (λ r. match47 (r .0) n) (map (λ p. (p .0, valuesOf (p .0) h)) h)
-      (all-map SizedRecord (λ p. (p .0, valuesOf (p .0) h)) h
-      (all-with SizedPair (λ p. SizedRecord (p .0, valuesOf (p .0) h))
-      (λ p s. record { text = s .text; many = omega (arith, values-few (p .0)); values = values-sized (p .0) }) h sized)))
+      listing-all SizedRecord n h (all-with SizedPair (λ p. SizedRecord (p .0, valuesOf (p .0) h))
+      (λ p s. record { text = s .text; many = omega (arith, values-few (p .0)); values = values-sized (p .0) }) h sized)
 
 -- both lists of rules are kept
 both-accepted : (a b : List Rule) → accepted (checked (a ++ b)) ≡ true → (accepted (checked a) ≡ true) × (accepted (checked b) ≡ true)

@@ -13,11 +13,12 @@ use Rattle.held.specs.Ascending.{any, All, keep, Below, Asc}
 use Rattle.held.specs.Room.{Room}
 use Rattle.held.specs.History.{run, hasRoom}
 use Rattle.held.specs.Subscriptions.{Pair, AscPairs, Call, subscriptions, isHeld, valuesOf, listing, listingBytes}
+use Rattle.held.specs.Forest.{AscValues}
 use Rattle.held.specs.Caught.{isListed, Caught}
 use Rattle.held.proofs.Orders.{filter-order, listing-order}
 use Rattle.held.proofs.Stores.{find-below}
-use Rattle.held.proofs.Entries.{all-keep, all-sort, all-map, all-with}
-use Rattle.held.proofs.Listing.{some-of, findR, listing-finds, listing-asc}
+use Rattle.held.proofs.Entries.{all-with}
+use Rattle.held.proofs.Listing.{some-of, findR, listing-finds, listing-asc, listing-all}
 use Rattle.held.proofs.Histories.{history-held, run-pairs}
 
 -- a value is among those of a filter exactly when the pair is held
@@ -75,7 +76,7 @@ values-below f v (q ∷ h) b = go (sameFilter f (q .0)) refl (values-below f v h
     go true e r = (same-less f (q .0) v (q .1) (filter-order .eq-true f (q .0) e) (b .0), r)
     go false e r = r
 
-values-asc : (f : Filter) (h : List Pair) → AscPairs h → Asc ltb (λ y. y) (valuesOf f h)
+values-asc : (f : Filter) (h : List Pair) → AscPairs h → AscValues (valuesOf f h)
 unfolding valuesOf
 values-asc f [] a = tt
 values-asc f (p ∷ h) a = go (sameFilter f (p .0)) refl (values-asc f h (a .1))
@@ -88,16 +89,10 @@ values-asc f (p ∷ h) a = go (sameFilter f (p .0)) refl (values-asc f h (a .1))
     go true e r = (first (filter-order .eq-true f (p .0) e), r)
     go false e r = r
 
-abbrev Ascends : Filter × List ℕ → Type 0
-Ascends r = Asc ltb (λ v. v) (r .1)
-
-listing-values : (n : Filter) (h : List Pair) → AscPairs h → All Ascends (listing n h)
-unfolding listing
-listing-values n h a =
-    all-sort Ascends listingLt (λ r. r .0) (keep (λ r. match47 (r .0) n) (map (λ p. (p .0, valuesOf (p .0) h)) h))
-    (all-keep Ascends (λ r. match47 (r .0) n) (map (λ p. (p .0, valuesOf (p .0) h)) h) (all-map Ascends (λ (p : Pair). (p .0, valuesOf (p .0) h)) h (each-asc h)))
+listing-values : (n : Filter) (h : List Pair) → AscPairs h → All (λ (r : Filter × List ℕ). AscValues (r .1)) (listing n h)
+listing-values n h a = listing-all (λ (r : Filter × List ℕ). AscValues (r .1)) n h (each-asc h)
   where
-    each-asc : (l : List Pair) → All (λ (p : Pair). Asc ltb (λ v. v) (valuesOf (p .0) h)) l
+    each-asc : (l : List Pair) → All (λ (p : Pair). AscValues (valuesOf (p .0) h)) l
     each-asc [] = tt
     each-asc (p ∷ l) = (values-asc (p .0) h a, each-asc l)
 
@@ -121,14 +116,8 @@ values-some (q ∷ h) = (first, all-with (λ (p : Pair). valuesOf (p .0) h ≡ [
         absurd-cons : {x : ℕ} {l : List ℕ} → x ∷ l ≡ [] → ⊥
         absurd-cons e = let z : _≡_ {A = ℕ} 0 1 = cc in omega arith
 
-abbrev Filled : Filter × List ℕ → Type 0
-Filled r = r .1 ≡ [] → ⊥
-
-listing-some : (n : Filter) (h : List Pair) → All Filled (listing n h)
-unfolding listing
-listing-some n h =
-    all-sort Filled listingLt (λ r. r .0) (keep (λ r. match47 (r .0) n) (map (λ p. (p .0, valuesOf (p .0) h)) h))
-    (all-keep Filled (λ r. match47 (r .0) n) (map (λ p. (p .0, valuesOf (p .0) h)) h) (all-map Filled (λ (p : Pair). (p .0, valuesOf (p .0) h)) h (values-some h)))
+listing-some : (n : Filter) (h : List Pair) → All (λ (r : Filter × List ℕ). r .1 ≡ [] → ⊥) (listing n h)
+listing-some n h = listing-all (λ (r : Filter × List ℕ). r .1 ≡ [] → ⊥) n h (values-some h)
 
 -- after a history in which none is refused for room
 pub history-caught : (r : Room) (cs : List Call) → hasRoom subscriptions r cs [] ≡ true → (name : List ℕ) → Caught cs name (listingBytes (split name) (run subscriptions r cs []))

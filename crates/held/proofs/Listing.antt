@@ -5,9 +5,10 @@ use mathlib.Core.List.{List, [], _∷_, map}
 use mathlib.Core.Option.{Option, none, some}
 use Rattle.topic.specs.Match.{match47}
 use Rattle.held.specs.Order.{Filter, sameFilter, listingLt}
-use Rattle.held.specs.Ascending.{keep, Asc}
+use Rattle.held.specs.Ascending.{All, keep, Asc}
 use Rattle.held.specs.Subscriptions.{valuesOf, listing}
 use Rattle.held.proofs.Orders.{filter-order, listing-order}
+use Rattle.held.proofs.Entries.{all-keep, all-sort, all-map}
 use Rattle.held.proofs.Stores.{find, orElse, find-sort, find-keep, asc-sort, ext}
 
 -- the values, where there are some
@@ -80,6 +81,13 @@ module _ {X : Type 0} where
   pub listing-asc : (n : Filter) (h : List (Filter × X)) → Asc listingLt (λ r. r .0) (listing n h)
   unfolding listing
   listing-asc n h = asc-sort (λ r. r .0) (λ r. r .1) listing-order (keep (λ r. match47 (r .0) n) (recordsOf h h))
+
+  -- what every held filter has with its values, every record has
+  pub listing-all : (P : Filter × List X → Type 0) (n : Filter) (h : List (Filter × X)) → All (λ (p : Filter × X). P (p .0, valuesOf (p .0) h)) h → All P (listing n h)
+  unfolding listing
+  listing-all P n h a =
+      all-sort P listingLt (λ r. r .0) (keep (λ r. match47 (r .0) n) (recordsOf h h))
+      (all-keep P (λ r. match47 (r .0) n) (recordsOf h h) (all-map P (λ (p : Filter × X). (p .0, valuesOf (p .0) h)) h a))
 
   -- and these two settle it
   pub listing-only : (n : Filter) (h : List (Filter × X)) (rs : List (Filter × List X)) → Asc listingLt (λ r. r .0) rs

@@ -4,7 +4,7 @@ use mathlib.Core.Path.{_≡_}
 use Prim.Native.Nat.{ℕ}
 use mathlib.Core.Bool.{Bool, true, false, cond, _&&_}
 use mathlib.Core.List.{List, [], _∷_}
-use lib.Dec.{eqb, ltb}
+use lib.Dec.{eqb}
 use Rattle.level.specs.Levels.{split}
 use Rattle.topic.specs.Rules.{filterRules}
 use Rattle.topic.specs.Answers.{checked}
@@ -13,6 +13,7 @@ use Rattle.held.specs.Order.{Filter, sameFilter, listingLt}
 use Rattle.held.specs.Ascending.{any, All, Asc}
 use Rattle.held.specs.Bytes.{each}
 use Rattle.held.specs.History.{accepted}
+use Rattle.held.specs.Forest.{AscValues}
 use Rattle.held.specs.Subscriptions.{Pair, Call, insert, remove, callsOf, listingRecord}
 
 -- whether a pair is there after a call about it, and before it: a call whose text is refused says nothing
@@ -39,4 +40,4 @@ pub record Caught (cs : List Call) (name out : List ℕ) : Type 0 where
   pub exactly : (p : Pair) → isListed p records ≡ (subscribed p cs && match47 (p .0) (split name))
   pub in-order : Asc listingLt (λ r. r .0) records
   pub some-value : All (λ r. r .1 ≡ [] → ⊥) records
-  pub values-ascend : All (λ r. Asc ltb (λ v. v) (r .1)) records
+  pub values-ascend : All (λ r. AscValues (r .1)) records

@@ -35,7 +35,7 @@ fn unsub(store: &mut [u8], filter: &[u8], value: u32) {
     say_changed(trie::remove(store, filter, value), b"gone\n", b"absent\n");
 }
 
-fn find(store: &[u8], name: &[u8], room: &mut [u8]) {
+fn list(store: &[u8], name: &[u8], room: &mut [u8]) {
     match trie::matches(store, name, room) {
         Listed::Given { bytes, records } => say_listing(room, bytes, records, b"\n"),
         Listed::Refused(refusal) => say_refusal(refusal),
@@ -50,7 +50,7 @@ pub fn answer(store: &mut [u8], line: &[u8], room: &mut [u8]) {
     match words::command(line) {
         Command::Sub { value, at } => sub(store, level::text_from(line, at), value),
         Command::Unsub { value, at } => unsub(store, level::text_from(line, at), value),
-        Command::Match { at } => find(store, level::text_from(line, at), room),
+        Command::Match { at } => list(store, level::text_from(line, at), room),
         Command::Bad => bad_line(),
     }
 }

@@ -1,4 +1,4 @@
-// What the programs share: printing to standard output, the words of a line, and decimal numbers.
+// What the programs share: printing to standard output, records too, the words of a line, and decimal numbers.
 mod numbers;
 mod records;
 mod saying;

@@ -1,5 +1,5 @@
 -- `program::is_number` is safe, and ends. Assumes nothing.
-use Prim.Native.Nat.{_-_, _≤_, _<_, _+_}
+use Prim.Native.Nat.{_-_, _≤_}
 use lib.ListN.{length}
 use borrow.Author.Needs.{needs}
 use Rattle.program.proofs.numbers.is_number.Statement.{statement}

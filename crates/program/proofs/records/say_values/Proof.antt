@@ -1,6 +1,5 @@
 -- `program::say_values` is safe, and ends. Assumes nothing.
-use Prim.Native.Nat.{_-_, _≤_, _<_, _+_}
-use lib.ListN.{length}
+use Prim.Native.Nat.{_-_, _≤_}
 use borrow.Author.Needs.{needs}
 use Rattle.program.proofs.records.say_values.Statement.{statement}
 use Rattle.program.proofs.records.say_values.Tie as tie
