@@ -1,8 +1,7 @@
 -- What a store holds fits the bytes of its records. Assumes nothing.
-use mathlib.Core.Path.{_≡_, ap, subst}
+use mathlib.Core.Path.{ap, subst}
 use Prim.Native.Nat.{ℕ, _≤_, _<_, _^_}
 use mathlib.Core.List.{List, [], _∷_, _++_, map}
-use mathlib.Core.Option.{Option, none, some}
 use native.Mathlib.Omega.{arith}
 use lib.ListN.{length}
 use Rattle.topic.specs.Rules.{nameRules, filterRules}
@@ -11,12 +10,12 @@ use Rattle.held.specs.Ascending.{All}
 use Rattle.held.specs.History.{accepted}
 use Rattle.held.specs.Retained.{Named}
 use Rattle.held.specs.Subscriptions.{Pair}
-use Rattle.held.specs.Sized.{Written, SizedPair, SizedName}
+use Rattle.held.specs.Sized.{Written, SizedPair, SmallStored, SizedName}
 use Rattle.held.specs.Forest.{Forest, leaf, fork, under, held}
 use Rattle.held.proofs.Entries.{all-append, all-map, all-with, all-both}
 use Rattle.held.proofs.Bounds.{in-range}
 use Rattle.held.proofs.Texts.{filter-written, name-written}
-use Rattle.region.specs.Forms.{Fits, fork-fits, SmallMoment, SmallStored}
+use Rattle.region.specs.Forms.{Fits, fork-fits}
 use Rattle.region.specs.Units.{valueOf, storedOf}
 use Rattle.region.specs.Store.{Accepts, roomAt, forestAt, SubscriptionStore, RetainedStore}
 use Rattle.change.proofs.StoreLaws.{store-holds, retained-holds}
@@ -34,14 +33,10 @@ module _ {X : Type 0} (Small : X → Type 0) where
       all-append SmallEntry (map (λ x. (l ∷ [], x)) v) (map (under l) (held k) ++ held n) (all-map SmallEntry (λ x. (l ∷ [], x)) v d)
       (all-append SmallEntry (map (under l) (held k)) (held n) (all-map SmallEntry (under l) (held k) (fits-held k e)) (fits-held n g))
 
-small-time : (o : Option ℕ) → SmallMoment o → (m : ℕ) → o ≡ some m → m < 18446744073709551616
-small-time none s m e = let z : _≡_ {A = ℕ} 0 1 = cc in omega arith
-small-time (some k) s m e = let z : k ≡ m = cc in omega (arith, s, z)
-
 pub names-fit : (s : List ℕ) → RetainedStore s → All SizedName (namesIn s)
 names-fit s st =
     all-with (λ (e : Named). SmallStored (e .1) × Accepts nameRules (e .0)) SizedName
-    (λ (e : Named) p. record { text = subst Written (p .1 .levels) (name-written (p .1 .text) (ap accepted (p .1 .fine))); small = p .0 .handle; time = small-time (e .1 .moment) (p .0 .moment) })
+    (λ (e : Named) p. record { text = subst Written (p .1 .levels) (name-written (p .1 .text) (ap accepted (p .1 .fine))); small = p .0 })
     (namesIn s) (all-both (λ (e : Named). SmallStored (e .1)) (λ (e : Named). Accepts nameRules (e .0)) (namesIn s) (fits-held SmallStored (forestAt storedOf s) (retained-holds s st .fits)) (st .texts))
 
 pub pairs-fit : (s : List ℕ) → SubscriptionStore s → All SizedPair (heldIn s)

@@ -11,10 +11,11 @@ use Rattle.topic.specs.Rules.{filterRules, nameRules}
 use Rattle.held.specs.Order.{Filter}
 use Rattle.held.specs.Ascending.{All}
 use Rattle.held.specs.Retained.{Stored}
+use Rattle.held.specs.Sized.{SmallStored}
 use Rattle.held.specs.Forest.{Forest, held, Rows, Full, WellFormed, WellNamed}
 use Rattle.region.specs.Layout.{unitsF, unitBytes}
 use Rattle.region.specs.Units.{valueBytes, valueOf, momentBytes, storedBytes, storedOf}
-use Rattle.region.specs.Forms.{Form, Fits, SmallMoment, SmallStored}
+use Rattle.region.specs.Forms.{Form, Fits}
 use Rattle.region.specs.Decode.{decode}
 use Rattle.region.specs.Store.{roomAt, forestAt, usedBy, WrittenIn, Accepts, SubscriptionStore, RetainedStore}
 use Rattle.region.proofs.Sizes.{few-units}
@@ -72,14 +73,13 @@ abbrev orNone : Option ℕ → ℕ
 orNone none = 0
 orNone (some m) = m
 
-moment-small : (h : ℕ) (m : Option ℕ) → _≡_ {A = Stored} (storedOf (bytes 4 h ++ momentBytes m)) (record { handle = h; moment = m }) → (h < 256 ^ 4) × SmallMoment m
+moment-small : (h m : ℕ) → _≡_ {A = Option ℕ} (storedOf (bytes 4 h ++ momentBytes (some m)) .moment) (some m) → m < 256 ^ 8
 unfolding storedOf bytes part
-moment-small h none e = (four h (ap (λ (s : Stored). s .handle) e), tt)
-moment-small h (some m) e = (four h (ap (λ (s : Stored). s .handle) e), eight m (ap (λ (s : Stored). orNone (s .moment)) e))
+moment-small h m e = eight m (ap orNone e)
 
 pub stored-small : (x : Stored) → storedOf (storedBytes x) ≡ x → SmallStored x
-unfolding storedBytes
-stored-small x e = let p = moment-small (x .handle) (x .moment) e in record { handle = p .0; moment = p .1 }
+unfolding storedOf storedBytes bytes part
+stored-small x e = record { handle = four (x .handle) (ap (λ (s : Stored). s .handle) e); moment = λ m z. moment-small (x .handle) m (rw z at (ap (λ (s : Stored). s .moment) e)) }
 
 -- a store of retained names holds its forest
 pub retained-holds : (s : List ℕ) → RetainedStore s → Holds records 2 s (forestAt storedOf s)

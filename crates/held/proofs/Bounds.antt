@@ -29,7 +29,7 @@ use Rattle.held.proofs.HeldLaws.{pairs-insert, pairs-remove}
 use Rattle.held.proofs.RoomLaws.{room-within}
 use Rattle.held.proofs.Histories.{run-keeps, all-calls}
 use Rattle.held.proofs.Lengths.{length-insert}
-use Rattle.held.specs.Sized.{SizedPair, SizedRecord, SizedName}
+use Rattle.held.specs.Sized.{SizedPair, SizedRecord, SmallStored, SizedName}
 
 pub length-keep : {E : Type 0} (q : E → Bool) (l : List E) → length (keep q l) ≤ length l
 length-keep q [] = omega arith
@@ -126,7 +126,7 @@ run-within r cs i = omega (arith, run-few r cs, in-range r i .pairs .1)
 
 -- histories keep it, where handles are u32 and moments u64
 abbrev pub SmallChange : Change → Type 0
-SmallChange (set s n x) = (x .handle < 4294967296) × ((m : ℕ) → x .moment ≡ some m → m < 18446744073709551616)
+SmallChange (set s n x) = SmallStored x
 SmallChange (sweep now) = Unit {0}
 
 names-sized-after : (r : Room) (c : Change) (h : List Named) → SmallChange c → accepted (verdict (retained r c h)) ≡ true → All SizedName h → All SizedName ((retained r c h) .after)
@@ -134,7 +134,7 @@ unfolding setHeld eraseHeld sweepHeld verdict
 names-sized-after r (set s zero x) h q e a = all-keep SizedName (λ e. not (sameFilter (split s) (e .0))) h a
 names-sized-after r (set s (suc n) x) h q e a =
     all-put SizedName filterLt (λ e. e .0) (split s, x) h
-    (record { text = name-written s (both-accepted (nameRules s) ((retained r (set s (suc n) x) h) .rooms) e .0); small = q .0; time = q .1 }) a
+    (record { text = name-written s (both-accepted (nameRules s) ((retained r (set s (suc n) x) h) .rooms) e .0); small = q }) a
 names-sized-after r (sweep now) h q e a = all-keep SizedName (λ e. unexpired now (e .1)) h a
 
 pub run-names-sized : (r : Room) (cs : List Change) → All SmallChange cs → All SizedName (run retained r cs [])

@@ -147,7 +147,7 @@ module _ (now : ℕ) (e : Named) (sized : SizedName e) (s : List ℕ) where
   name-back = text-at 0x52 0x56 name numbers (nameRecord now e ++ s) name-laid (sized .text .short)
 
   handle-back : number 4 numbers ≡ e .1 .handle
-  handle-back = number-front 4 (e .1 .handle) (bytes 8 (left now (e .1 .moment)) ++ s) (sized .small)
+  handle-back = number-front 4 (e .1 .handle) (bytes 8 (left now (e .1 .moment)) ++ s) (sized .small .handle)
 
   left-back : drop 4 numbers ≡ bytes 8 (left now (e .1 .moment)) ++ s
   left-back = after-number 4 (e .1 .handle) (bytes 8 (left now (e .1 .moment)) ++ s)
@@ -170,4 +170,4 @@ names-read now (suc k) (e ∷ es) h a =
     let t = name-back now e (a .0) s in
     let m : ℕ = left now (e .1 .moment) in
     names-step k (nameRecord now e ++ s) (name-some now e (a .0) s)
-    ∙ rw (t .0, t .1, handle-back now e (a .0) s, left-back now e (a .0) s, number-front 8 m s (left-fits now (e .1 .moment) (a .0 .time)), after-number 8 m s, a .0 .text .levels, names-read now k es (omega arith) (a .1))
+    ∙ rw (t .0, t .1, handle-back now e (a .0) s, left-back now e (a .0) s, number-front 8 m s (left-fits now (e .1 .moment) (a .0 .small .moment)), after-number 8 m s, a .0 .text .levels, names-read now k es (omega arith) (a .1))

@@ -7,11 +7,11 @@ use lib.Dec.{ltb}
 use lib.ListN.{length, length-take, length-drop}
 use Rattle.held.specs.Order.{Filter}
 use Rattle.held.specs.Retained.{Stored, Named, lookup, lookupBytes, page, pageBytes, more}
+use Rattle.held.specs.Sized.{SmallStored}
 use Rattle.held.specs.Forest.{Forest, held, Owns, Single}
 use Rattle.held.specs.Walks.{hash}
 use Rattle.held.proofs.Streams.{lookup-bytes, page-bytes, lookup-count, page-more}
 use Rattle.region.specs.Units.{storedBytes}
-use Rattle.region.specs.Forms.{SmallStored}
 use Rattle.region.proofs.Instances.{records}
 use Rattle.forest.specs.Stands.{Stands}
 use Rattle.forest.proofs.StandsLaws.{stands-read}

@@ -15,9 +15,9 @@ use Rattle.held.specs.Ascending.{All}
 use Rattle.held.specs.Bytes.{each}
 use Rattle.held.specs.Forest.{Single}
 use Rattle.held.specs.Retained.{Stored, unexpired, left, nameRecord}
+use Rattle.held.specs.Sized.{SmallStored}
 use Rattle.held.specs.Stream.{inPage, ownCount, ownBytes}
 use Rattle.region.specs.Units.{storedBytes, storedOf}
-use Rattle.region.specs.Forms.{SmallStored}
 use Rattle.region.proofs.Instances.{stored-back}
 use Rattle.forest.specs.Places.{unitAt}
 use Rattle.lookup.specs.declared.Life.the-variants.{Over, Left}

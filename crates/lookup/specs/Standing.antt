@@ -8,10 +8,10 @@ use Rattle.held.specs.Order.{Level}
 use Rattle.held.specs.Ascending.{All}
 use Rattle.held.specs.Bytes.{each}
 use Rattle.held.specs.Retained.{Stored}
+use Rattle.held.specs.Sized.{SmallStored}
 use Rattle.held.specs.Forest.{Forest, Owns, Single}
 use Rattle.region.specs.Layout.{levelUnits}
 use Rattle.region.specs.Units.{storedBytes, storedOf}
-use Rattle.region.specs.Forms.{SmallStored}
 use Rattle.forest.specs.declared.Row.{Row}
 use Rattle.forest.specs.Places.{unitAt, lenAt, levelIn, forestIn}
 use Rattle.forest.specs.Stands.{Stands}

@@ -10,8 +10,9 @@ use Rattle.lent.specs.Numbers.{bytes}
 use Rattle.lent.specs.Parts.{part}
 use Rattle.lent.proofs.Digits.{be-bytes}
 use Rattle.held.specs.Retained.{Stored}
+use Rattle.held.specs.Sized.{SmallStored}
 use Rattle.region.specs.Units.{valueBytes, valueOf, momentBytes, storedBytes, storedOf}
-use Rattle.region.specs.Forms.{Form, SmallMoment, SmallStored, whole, Whole}
+use Rattle.region.specs.Forms.{Form, whole, Whole}
 
 pub value-long : (v : ℕ) → length (valueBytes v) ≡ 16
 unfolding valueBytes bytes
@@ -29,11 +30,11 @@ unfolding bytes
 moment-long h none = refl
 moment-long h (some m) = refl
 
-moment-back : (h : ℕ) (m : Option ℕ) → h < 256 ^ 4 → SmallMoment m
+moment-back : (h : ℕ) (m : Option ℕ) → SmallStored (record { handle = h; moment = m })
     → _≡_ {A = Stored} (storedOf (bytes 4 h ++ momentBytes m)) (record { handle = h; moment = m })
 unfolding storedOf bytes part
-moment-back h none p q = rw (be-bytes 4 h p)
-moment-back h (some m) p q = rw (be-bytes 4 h p, be-bytes 8 m q)
+moment-back h none f = rw (be-bytes 4 h (f .handle))
+moment-back h (some m) f = rw (be-bytes 4 h (f .handle), be-bytes 8 m (f .moment m refl))
 
 pub stored-long : (s : Stored) → length (storedBytes s) ≡ 16
 unfolding storedBytes
@@ -41,7 +42,7 @@ stored-long s = moment-long (s .handle) (s .moment)
 
 pub stored-back : (s : Stored) → SmallStored s → storedOf (storedBytes s) ≡ s
 unfolding storedBytes
-stored-back s f = moment-back (s .handle) (s .moment) (f .handle) (f .moment)
+stored-back s f = moment-back (s .handle) (s .moment) f
 
 abbrev pub records : Form Stored
 records = record { write = storedBytes; read = storedOf; Small = SmallStored; long = stored-long; back = stored-back }

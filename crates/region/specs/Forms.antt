@@ -1,13 +1,11 @@
 -- FOR THE PROOFS. How what a node holds is written in a unit of 16 bytes and read back, and the forests whose numbers fit
 -- their bytes. Assumes nothing.
 use mathlib.Core.Path.{_≡_}
-use Prim.Native.Nat.{ℕ, _^_, _<_}
+use Prim.Native.Nat.{ℕ, _<_}
 use mathlib.Core.List.{List, _++_}
-use mathlib.Core.Option.{Option, none, some}
 use lib.ListN.{length, take, replicate}
 use Rattle.held.specs.Order.{Level}
 use Rattle.held.specs.Ascending.{All}
-use Rattle.held.specs.Retained.{Stored}
 use Rattle.held.specs.Forest.{Forest, leaf, fork}
 use Rattle.region.specs.Layout.{unitsF}
 
@@ -18,16 +16,6 @@ pub record Form (X : Type 0) : Type 1 where
   pub Small : X → Type 0
   pub long : (x : X) → length (write x) ≡ 16
   pub back : (x : X) → Small x → read (write x) ≡ x
-
--- a moment that fits its 8 bytes
-abbrev pub SmallMoment : Option ℕ → Type 0
-SmallMoment none = Unit {0}
-SmallMoment (some m) = m < 256 ^ 8
-
--- a record that fits its unit
-pub record SmallStored (s : Stored) : Type 0 where
-  pub handle : s .handle < 256 ^ 4
-  pub moment : SmallMoment (s .moment)
 
 -- numbers that fit their two bytes, and what fits its unit
 pub data Fits {X : Type 0} (Small : X → Type 0) : Forest X → Type 0 where

@@ -17,6 +17,7 @@ use Rattle.topic.specs.declared.Checked.the-variants.{Accepted}
 use Rattle.held.specs.Order.{Filter}
 use Rattle.held.specs.Room.{levelCells}
 use Rattle.held.specs.Retained.{Stored, hasFilter, set}
+use Rattle.held.specs.Sized.{SmallStored}
 use Rattle.held.specs.Forest.{Forest}
 use Rattle.held.specs.Walks.{hit, valuesAt}
 use Rattle.held.specs.Edit.{setF, missing, weigh}
@@ -26,7 +27,6 @@ use Rattle.region.specs.Layout.{levelUnits, unitsF}
 use Rattle.region.specs.Units.{storedBytes, storedOf}
 use Rattle.region.specs.Store.{forestAt, RetainedStore}
 use Rattle.region.specs.Shapes.{UnitsOf}
-use Rattle.region.specs.Forms.{SmallStored}
 use Rattle.region.proofs.Instances.{records, stored-long}
 use Rattle.forest.specs.Places.{unitAt}
 use Rattle.seek.specs.declared.Path.{Path}

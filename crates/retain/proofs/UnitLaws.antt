@@ -1,6 +1,7 @@
 -- The unit of a record, as it is put together. Assumes nothing.
-use mathlib.Core.Path.{_≡_, refl, ap, _∙_}
+use mathlib.Core.Path.{_≡_, refl, ap, subst, _∙_}
 use mathlib.Core.List.{List}
+use mathlib.Core.Option.{Option·none-ne-some, Option·some-injective}
 use Prim.Native.Nat.{ℕ, _^_, _<_}
 use lib.ListN.{replicate, set}
 use Rattle.lent.specs.Numbers.{bytes}
@@ -23,12 +24,12 @@ at-bytes h m = refl
 
 pub unit-never : (h : ℕ) {m : Moment} {t : List ℕ} → h < 256 ^ 4 → m ≡ Never → t ≡ write 0 (bytes 4 h) (replicate 16 0) → UnitOf (storedAs h m) t
 unit-never h a e z =
-    rw e (record { is = z ∙ never-bytes h; back = stored-back (storedAs h Never) (record { handle = a; moment = tt }) })
+    rw e (record { is = z ∙ never-bytes h; back = stored-back (storedAs h Never) (record { handle = a; moment = λ k q. absurd (Option·none-ne-some k q) }) })
 
 pub unit-at : (h at : ℕ) {m : Moment} {t u : List ℕ} → h < 256 ^ 4 → at < 256 ^ 8 → m ≡ At at → t ≡ write 0 (bytes 4 h) (replicate 16 0) → u ≡ write 8 (bytes 8 at) (set t 4 1)
     → UnitOf (storedAs h m) u
 unit-at h at a b e y z =
     rw e (record {
       is = z ∙ ap (λ (x : List ℕ). write 8 (bytes 8 at) (set x 4 1)) y ∙ at-bytes h at;
-      back = stored-back (storedAs h (At at)) (record { handle = a; moment = b });
+      back = stored-back (storedAs h (At at)) (record { handle = a; moment = λ k q. subst (λ (n : ℕ). n < 256 ^ 8) (Option·some-injective at k q) b });
     })

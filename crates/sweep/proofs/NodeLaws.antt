@@ -16,11 +16,11 @@ use Rattle.held.specs.Bytes.{each}
 use Rattle.held.specs.Room.{levelCells}
 use Rattle.held.specs.Ascending.{All, keep}
 use Rattle.held.specs.Retained.{Stored, unexpired}
+use Rattle.held.specs.Sized.{SmallStored}
 use Rattle.held.specs.Forest.{Forest, fork, Single}
 use Rattle.held.specs.Edit.{pruned, sweepF}
 use Rattle.region.specs.Layout.{levelUnits, rowUnits, unitsF, headBytes, levelBytes, rowBytes, unitBytes, marksOf}
 use Rattle.region.specs.Units.{storedBytes, storedOf}
-use Rattle.region.specs.Forms.{SmallStored}
 use Rattle.region.proofs.Instances.{records}
 use Rattle.region.proofs.Decoded.{length-level, length-each}
 use Rattle.forest.specs.declared.Row.{Row}

@@ -8,11 +8,11 @@ use Rattle.lent.specs.Parts.{part}
 use Rattle.held.specs.Order.{Level}
 use Rattle.held.specs.Ascending.{keep}
 use Rattle.held.specs.Retained.{Stored, unexpired}
+use Rattle.held.specs.Sized.{SmallStored}
 use Rattle.held.specs.Forest.{Forest, fork, held, Single, Owns}
 use Rattle.held.specs.Edit.{pruned, sweepF, sizeF, cellsF}
 use Rattle.region.specs.Layout.{unitBytes, marksOf, unitsF}
 use Rattle.region.specs.Units.{storedBytes}
-use Rattle.region.specs.Forms.{SmallStored}
 use Rattle.forest.specs.Places.{unitAt}
 use Rattle.forest.specs.Stands.{Stands}
 use Rattle.walk.specs.Height.{heightF}
