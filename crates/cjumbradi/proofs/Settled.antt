@@ -49,7 +49,7 @@ tells of once a b =
     (a .said ∙ ap of (z .0) ∙ sym (b .said), z .1)
 
 pub tells-alone : {A T : Type 0} (of : A → T) {P : A → Type 0} → Settles P → Settles (Tells of P)
-tells-alone of once t u a b = a .said ∙ ap of (once (a .answer) (b .answer) (a .promised) (b .promised)) ∙ sym (b .said)
+tells-alone of once t u a b = tells of {E = Unit {0}} (λ r q x y. (once r q x y, tt)) a b .0
 
 module _ (s : List ℕ) (all : AreBytes s) {after after' : List ℕ} where
   -- `cjumbradi_insert`, `cjumbradi_remove`
