@@ -3,6 +3,7 @@ use crate::Command;
 use crate::words;
 use edit::Changed;
 use edit::Listed;
+use program::bad_line;
 use program::say;
 use program::say_listing;
 use program::say_number;
@@ -40,10 +41,6 @@ fn list(store: &[u8], name: &[u8], room: &mut [u8]) {
         Listed::Given { bytes, records } => say_listing(room, bytes, records, b"\n"),
         Listed::Refused(refusal) => say_refusal(refusal),
     }
-}
-
-pub fn bad_line() {
-    say(b"bad line\n");
 }
 
 pub fn answer(store: &mut [u8], line: &[u8], room: &mut [u8]) {

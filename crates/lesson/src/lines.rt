@@ -13,7 +13,7 @@ fn end_line(store: &mut [u8], room: &mut [u8], line: &[u8], come: usize)
     requires { ⌜ length (now line) ≡ 4096 ⌝ }
 {
     if LONGEST < come {
-        return answers::bad_line();
+        return program::bad_line();
     }
     answers::answer(store, &line[..come], room);
 }

@@ -8,6 +8,7 @@ pub use numbers::number_of;
 pub use numbers::small_of;
 pub use records::say_listing;
 pub use records::say_lookup;
+pub use saying::bad_line;
 pub use saying::say;
 pub use saying::say_checked;
 pub use saying::say_number;

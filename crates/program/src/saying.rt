@@ -1,4 +1,4 @@
-// How the programs print: texts, numbers and refusals.
+// How the programs print: texts, numbers, bad lines and refusals.
 use libc::STDOUT_FILENO;
 use refusal::Refusal;
 use topic::Checked;
@@ -9,6 +9,11 @@ pub fn say(text: &[u8]) {
 
 pub fn say_number(n: u64) {
     io::print_decimal(STDOUT_FILENO, n);
+}
+
+// The answer to a line that the program does not take.
+pub fn bad_line() {
+    say(b"bad line\n");
 }
 
 // A refusal by its number and place.

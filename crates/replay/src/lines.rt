@@ -1,10 +1,10 @@
 // The lines of the input: the name of a call, and behind a space what it takes. A text is always last, and may have spaces.
 use crate::names;
-use crate::saying::bad_line;
 use crate::subscriptions;
 use crate::tests;
 use crate::texts;
 use program::after_word;
+use program::bad_line;
 use program::find;
 use program::first_word;
 use program::say;

@@ -1,5 +1,4 @@
 // The calls on a store of retained names.
-use crate::saying::bad_line;
 use crate::saying::say_changed;
 use crate::saying::say_last;
 use crate::saying::say_refused;
@@ -7,6 +6,7 @@ use edit::Listed;
 use program::Number;
 use program::Small;
 use program::after_word;
+use program::bad_line;
 use program::first_word;
 use program::number_of;
 use program::say;

@@ -3,10 +3,6 @@ use edit::Changed;
 use program::say;
 use program::say_number;
 
-pub fn bad_line() {
-    say(b"bad line\n");
-}
-
 pub fn say_refused() {
     say(b"refused\n");
 }

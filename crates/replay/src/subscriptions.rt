@@ -1,5 +1,4 @@
 // The calls on a store of subscriptions.
-use crate::saying::bad_line;
 use crate::saying::say_changed;
 use crate::saying::say_last;
 use crate::saying::say_refused;
@@ -7,6 +6,7 @@ use crate::texts::say_matched;
 use edit::Listed;
 use program::Small;
 use program::after_word;
+use program::bad_line;
 use program::first_word;
 use program::say_listing;
 use program::small_of;

@@ -1,11 +1,11 @@
 // The calls on texts: parsing, levels, and whether a filter takes a name.
-use crate::saying::bad_line;
 use crate::saying::say_last;
 use crate::saying::say_refused;
 use crate::saying::say_yes;
 use level::Kind;
 use program::Number;
 use program::after_word;
+use program::bad_line;
 use program::first_word;
 use program::number_of;
 use program::say;
