@@ -75,6 +75,55 @@ pub type OpenCall = unsafe extern "C" fn(*mut u8, usize, u64, u64, u64, *mut u64
 /// A call that changes the values of a filter.
 pub type ChangeCall = unsafe extern "C" fn(*mut u8, usize, *const u8, usize, u32, *mut u64) -> u64;
 
+/// A call that asks about a name.
+pub type AskCall = unsafe extern "C" fn(*const u8, usize, *const u8, usize, *mut u64) -> u64;
+
+/// A call that lists the filters for a name.
+pub type ListingCall = unsafe extern "C" fn(
+    *const u8,
+    usize,
+    *const u8,
+    usize,
+    *mut u8,
+    usize,
+    *mut u64,
+    *mut u64,
+) -> u64;
+
+/// A call that sets a name or erases it.
+pub type SetCall =
+    unsafe extern "C" fn(*mut u8, usize, *const u8, usize, u64, u32, u64, u64, *mut u64) -> u64;
+
+/// A call that looks up a filter.
+pub type LookupCall = unsafe extern "C" fn(
+    *const u8,
+    usize,
+    *const u8,
+    usize,
+    u64,
+    *mut u8,
+    usize,
+    *mut u64,
+    *mut u64,
+) -> u64;
+
+/// A call that gives a page of the names.
+pub type PageCall = unsafe extern "C" fn(
+    *const u8,
+    usize,
+    u64,
+    u64,
+    u64,
+    *mut u8,
+    usize,
+    *mut u64,
+    *mut u64,
+    *mut u64,
+) -> u64;
+
+/// A call that sweeps.
+pub type SweepCall = unsafe extern "C" fn(*mut u8, usize, u64, *mut u64) -> u64;
+
 /// A call that tells a size of a store.
 pub type SizeCall = unsafe extern "C" fn(*const u8, usize, *mut u64) -> u64;
 

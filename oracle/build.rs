@@ -1,4 +1,4 @@
-//! Tells the linker where the library `libcjumbradi.a` stands: in the folder that the variable
+//! Tells the linker where the two archives of the library stand: in the folder that the variable
 //! CJUMBRADI_LIB names, or else in the repository's target/host.
 
 use std::path::PathBuf;
@@ -9,10 +9,14 @@ fn main() {
     println!("cargo:rerun-if-env-changed=CJUMBRADI_LIB");
     let named = env::var_os("CJUMBRADI_LIB").map(PathBuf::from);
     let folder = named.unwrap_or_else(|| PathBuf::from("../target/host"));
-    let archive = folder.join("libcjumbradi.a");
-    let archive = fs::canonicalize(&archive)
-        .unwrap_or_else(|_| panic!("no {}: build it, or set CJUMBRADI_LIB", archive.display()));
-    let folder = archive.parent().expect("a file stands in a folder");
-    println!("cargo:rerun-if-changed={}", archive.display());
+    let folder = fs::canonicalize(&folder).unwrap_or_else(|_| {
+        panic!(
+            "no {}: build the library, or set CJUMBRADI_LIB",
+            folder.display()
+        )
+    });
+    for archive in ["libcjumbradi.a", "libknown.a"] {
+        println!("cargo:rerun-if-changed={}", folder.join(archive).display());
+    }
     println!("cargo:rustc-link-search=native={}", folder.display());
 }

@@ -38,6 +38,14 @@ calls! {
     Lookup: "lookup",
     Page: "page",
     Sweep: "sweep",
+    KnownInsert: "known_insert",
+    KnownRemove: "known_remove",
+    KnownIsMatch: "known_is_match",
+    KnownListing: "known_listing",
+    KnownSet: "known_set",
+    KnownLookup: "known_lookup",
+    KnownPage: "known_page",
+    KnownSweep: "known_sweep",
 }
 
 thread_local! {

@@ -9,6 +9,8 @@ mod called_names;
 mod called_subscriptions;
 #[path = "../../include/cjumbradi.rs"]
 mod cjumbradi;
+#[path = "../../include/cjumbradi_known.rs"]
+mod cjumbradi_known;
 mod compare;
 mod counts;
 mod damage;
@@ -21,6 +23,7 @@ mod gate;
 mod held;
 mod history;
 mod inputs;
+mod known;
 mod lent;
 mod library;
 mod lists;

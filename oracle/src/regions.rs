@@ -30,6 +30,11 @@ impl Guarded {
         Guarded(Lent::new(&[&[GUARD; BEFORE][..], region].concat()))
     }
 
+    /// The same region, lent once more.
+    pub fn copy(&self) -> Self {
+        Guarded(Lent::new(&self.0))
+    }
+
     /// The region; none where the bytes in front of it are not as they were.
     pub fn region(&self) -> Option<&[u8]> {
         let (before, region) = self.0.split_at(BEFORE);

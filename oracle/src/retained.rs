@@ -2,7 +2,9 @@
 
 use crate::answers::Answer;
 use crate::cjumbradi::*;
+use crate::cjumbradi_known::*;
 use crate::counts::Called;
+use crate::known::Form;
 use crate::lent::Lent;
 use crate::library::{asked, UNWRITTEN};
 use crate::regions::{with_zero, Guarded, Listed};
@@ -18,29 +20,41 @@ pub struct Paged {
 impl Guarded {
     pub fn set(&mut self, name: &[u8], payload: u64, stored: Stored) -> Answer {
         let name = Lent::new(name);
-        let lent = self.lent();
-        // SAFETY: pointers and lengths are those of slices that do not overlap, and the answer
-        // outlives the call.
-        asked(Called::Set, |answer| unsafe {
-            cjumbradi_set(
-                lent.as_mut_ptr(),
-                lent.len(),
-                name.as_ptr(),
-                name.len(),
-                payload,
-                stored.handle,
-                u64::from(stored.moment.is_some()),
-                stored.moment.unwrap_or(7),
-                answer,
-            )
+        self.twice(&mut [], |form, store, _| {
+            let (called, call) = match form {
+                Form::Tested => (Called::Set, cjumbradi_set as SetCall),
+                Form::Known => (Called::KnownSet, cjumbradi_known_set as SetCall),
+            };
+            let lent = store.lent();
+            // SAFETY: pointers and lengths are those of slices that do not overlap, and the answer
+            // outlives the call.
+            asked(called, |answer| unsafe {
+                call(
+                    lent.as_mut_ptr(),
+                    lent.len(),
+                    name.as_ptr(),
+                    name.len(),
+                    payload,
+                    stored.handle,
+                    u64::from(stored.moment.is_some()),
+                    stored.moment.unwrap_or(7),
+                    answer,
+                )
+            })
         })
     }
 
     pub fn sweep(&mut self, clock: u64) -> Answer {
-        let lent = self.lent();
-        // SAFETY: as in `set`.
-        asked(Called::Sweep, |removed| unsafe {
-            cjumbradi_sweep(lent.as_mut_ptr(), lent.len(), clock, removed)
+        self.twice(&mut [], |form, store, _| {
+            let (called, call) = match form {
+                Form::Tested => (Called::Sweep, cjumbradi_sweep as SweepCall),
+                Form::Known => (Called::KnownSweep, cjumbradi_known_sweep as SweepCall),
+            };
+            let lent = store.lent();
+            // SAFETY: as in `set`.
+            asked(called, |removed| unsafe {
+                call(lent.as_mut_ptr(), lent.len(), clock, removed)
+            })
         })
     }
 
@@ -51,40 +65,52 @@ impl Guarded {
     /// The lookup into a buffer.
     pub fn lookup(&mut self, filter: &[u8], clock: u64, out: &mut [u8]) -> Answer<Listed> {
         let filter = Lent::new(filter);
-        // SAFETY: as in `set`, with a buffer that may be written.
-        self.list(Called::Lookup, out, |lent, out, bytes, records| unsafe {
-            cjumbradi_lookup(
-                lent.as_mut_ptr(),
-                lent.len(),
-                filter.as_ptr(),
-                filter.len(),
-                clock,
-                out.as_mut_ptr(),
-                out.len(),
-                bytes,
-                records,
-            )
+        self.twice(out, |form, store, out| {
+            let (called, call) = match form {
+                Form::Tested => (Called::Lookup, cjumbradi_lookup as LookupCall),
+                Form::Known => (Called::KnownLookup, cjumbradi_known_lookup as LookupCall),
+            };
+            // SAFETY: as in `set`, with a buffer that may be written.
+            store.list(called, out, |lent, out, bytes, records| unsafe {
+                call(
+                    lent.as_mut_ptr(),
+                    lent.len(),
+                    filter.as_ptr(),
+                    filter.len(),
+                    clock,
+                    out.as_mut_ptr(),
+                    out.len(),
+                    bytes,
+                    records,
+                )
+            })
         })
     }
 
     /// A page into a buffer. A refusal hands back also that no more follow.
     pub fn page(&mut self, clock: u64, offset: u64, limit: u64, out: &mut [u8]) -> Answer<Paged> {
-        let mut more = UNWRITTEN;
-        // SAFETY: as in `lookup`.
-        let listed = self.list(Called::Page, out, |lent, out, bytes, records| unsafe {
-            cjumbradi_page(
-                lent.as_mut_ptr(),
-                lent.len(),
-                clock,
-                offset,
-                limit,
-                out.as_mut_ptr(),
-                out.len(),
-                bytes,
-                records,
-                &mut more,
-            )
-        });
-        with_zero(listed, more).map(|listed| Paged { listed, more })
+        self.twice(out, |form, store, out| {
+            let (called, call) = match form {
+                Form::Tested => (Called::Page, cjumbradi_page as PageCall),
+                Form::Known => (Called::KnownPage, cjumbradi_known_page as PageCall),
+            };
+            let mut more = UNWRITTEN;
+            // SAFETY: as in `lookup`.
+            let listed = store.list(called, out, |lent, out, bytes, records| unsafe {
+                call(
+                    lent.as_mut_ptr(),
+                    lent.len(),
+                    clock,
+                    offset,
+                    limit,
+                    out.as_mut_ptr(),
+                    out.len(),
+                    bytes,
+                    records,
+                    &mut more,
+                )
+            });
+            with_zero(listed, more).map(|listed| Paged { listed, more })
+        })
     }
 }

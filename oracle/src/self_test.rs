@@ -1,7 +1,8 @@
 //! The test of the harness itself: the reference answers the examples of document 01, an honest
 //! run finds nothing, and every mutation is noticed by each judge that has a say in it.
 //!
-//! The same for regions: examples, an honest run, and every condition of a store left out.
+//! The same for regions: examples, calls whose two forms do not do the same, an honest run, and every condition of a store left
+//! out.
 
 use crate::answers::TopicCalls;
 use crate::compare::{Comparison, Difference, Judge};
@@ -9,6 +10,7 @@ use crate::damage;
 use crate::examples;
 use crate::history::{self, Trial};
 use crate::inputs::Input;
+use crate::known;
 use crate::library::Library;
 use crate::mutation::{self, Mutation};
 use crate::name_histories::Names;
@@ -55,6 +57,9 @@ fn of_regions(seed: u64) -> Totals {
     let mut totals = Totals::default();
     for (example, is_right) in store_examples::written_down() {
         totals.count((!is_right).then(|| format!("{example} is written down wrongly")));
+    }
+    for (what, is_right) in known::noticed() {
+        totals.count((!is_right).then(|| format!("a call in two forms, {what}: not noticed")));
     }
     let noise = damage::first_difference(&damage::HONEST, seed);
     totals.count(noise.map(|wrong| format!("an honest run on regions differs, {wrong}")));

@@ -2,7 +2,9 @@
 
 use crate::answers::Answer;
 use crate::cjumbradi::*;
+use crate::cjumbradi_known::*;
 use crate::counts::Called;
+use crate::known::Form;
 use crate::lent::Lent;
 use crate::library::asked;
 use crate::regions::{Guarded, Listed};
@@ -26,43 +28,61 @@ impl Guarded {
     }
 
     pub fn insert(&mut self, filter: &[u8], value: u32) -> Answer {
-        self.change(Called::Insert, cjumbradi_insert, filter, value)
+        self.twice(&mut [], |form, store, _| match form {
+            Form::Tested => store.change(Called::Insert, cjumbradi_insert, filter, value),
+            Form::Known => store.change(Called::KnownInsert, cjumbradi_known_insert, filter, value),
+        })
     }
 
     pub fn remove(&mut self, filter: &[u8], value: u32) -> Answer {
-        self.change(Called::Remove, cjumbradi_remove, filter, value)
+        self.twice(&mut [], |form, store, _| match form {
+            Form::Tested => store.change(Called::Remove, cjumbradi_remove, filter, value),
+            Form::Known => store.change(Called::KnownRemove, cjumbradi_known_remove, filter, value),
+        })
     }
 
     pub fn is_match(&mut self, name: &[u8]) -> Answer {
         let name = Lent::new(name);
-        let lent = self.lent();
-        // SAFETY: as in `change`.
-        asked(Called::IsMatch, |yes| unsafe {
-            cjumbradi_is_match(
-                lent.as_mut_ptr(),
-                lent.len(),
-                name.as_ptr(),
-                name.len(),
-                yes,
-            )
+        self.twice(&mut [], |form, store, _| {
+            let (called, call) = match form {
+                Form::Tested => (Called::IsMatch, cjumbradi_is_match as AskCall),
+                Form::Known => (Called::KnownIsMatch, cjumbradi_known_is_match as AskCall),
+            };
+            let lent = store.lent();
+            // SAFETY: as in `change`.
+            asked(called, |yes| unsafe {
+                call(
+                    lent.as_mut_ptr(),
+                    lent.len(),
+                    name.as_ptr(),
+                    name.len(),
+                    yes,
+                )
+            })
         })
     }
 
     /// The listing into a buffer.
     pub fn listing(&mut self, name: &[u8], out: &mut [u8]) -> Answer<Listed> {
         let name = Lent::new(name);
-        // SAFETY: as in `change`, with a buffer that may be written.
-        self.list(Called::Listing, out, |lent, out, bytes, records| unsafe {
-            cjumbradi_listing(
-                lent.as_mut_ptr(),
-                lent.len(),
-                name.as_ptr(),
-                name.len(),
-                out.as_mut_ptr(),
-                out.len(),
-                bytes,
-                records,
-            )
+        self.twice(out, |form, store, out| {
+            let (called, call) = match form {
+                Form::Tested => (Called::Listing, cjumbradi_listing as ListingCall),
+                Form::Known => (Called::KnownListing, cjumbradi_known_listing as ListingCall),
+            };
+            // SAFETY: as in `change`, with a buffer that may be written.
+            store.list(called, out, |lent, out, bytes, records| unsafe {
+                call(
+                    lent.as_mut_ptr(),
+                    lent.len(),
+                    name.as_ptr(),
+                    name.len(),
+                    out.as_mut_ptr(),
+                    out.len(),
+                    bytes,
+                    records,
+                )
+            })
         })
     }
 
