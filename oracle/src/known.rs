@@ -5,13 +5,11 @@
 
 use crate::answers::number::NOT_A_STORE;
 use crate::answers::{refused, Answer, Refusal};
+use crate::counts::Called;
 use crate::regions::Guarded;
 
-#[derive(Clone, Copy)]
-pub enum Form {
-    Tested,
-    Known,
-}
+/// A call that tests the region, and the one that does not.
+pub type Forms<F> = [(Called, F); 2];
 
 /// What the two forms do differently.
 enum Differs {
@@ -32,15 +30,16 @@ fn differ<T>(why: Differs) -> Answer<T> {
 
 impl Guarded {
     /// Makes a call in both forms, with a buffer for each, and answers as the one that tests.
-    pub fn twice<T: PartialEq>(
+    pub fn twice<F, T: PartialEq>(
         &mut self,
+        [tested, known]: Forms<F>,
         out: &mut [u8],
-        call: impl Fn(Form, &mut Guarded, &mut [u8]) -> Answer<T>,
+        make: impl Fn(&mut Guarded, &mut [u8], (Called, F)) -> Answer<T>,
     ) -> Answer<T> {
         let mut other = self.copy();
         let mut other_out = out.to_vec();
-        let found = call(Form::Tested, self, out);
-        let known = call(Form::Known, &mut other, &mut other_out);
+        let found = make(self, out, tested);
+        let known = make(&mut other, &mut other_out, known);
         if other.region().is_none() {
             return differ(Differs::Beside);
         }
@@ -61,37 +60,39 @@ impl Guarded {
 }
 
 /// What becomes of calls whose forms do the same or something else: what they do, and whether it comes out as it should.
-pub fn noticed() -> [(&'static str, bool); 5] {
+pub fn noticed() -> [(&'static str, bool); 6] {
     let same = made(|_, _, _| Ok(1));
-    let answer = made(|form, _, _| match form {
-        Form::Tested => Ok(1),
-        Form::Known => Ok(2),
-    });
-    let region = made(|form, store, _| {
-        store.lent()[0] = form as u8;
+    let answer = made(|_, _, form| Ok(form.into()));
+    let region = made(|store, _, form| {
+        store.lent()[0] = form;
         Ok(1)
     });
-    let buffer = made(|form, _, out| {
-        out[1] = form as u8;
+    let buffer = made(|_, out, form| {
+        out[1] = form;
         Ok(1)
     });
-    let no_store = made(|form, store, _| {
-        store.lent()[0] = form as u8;
-        match form {
-            Form::Tested => refused(NOT_A_STORE),
-            Form::Known => Ok(1),
-        }
+    let beside = made(|store, _, form| {
+        store.before()[0] ^= form;
+        Ok(1)
+    });
+    let no_store = made(|store, _, form| {
+        store.lent()[0] = form;
+        refused(NOT_A_STORE + u64::from(form))
     });
     [
         ("the same", same == Ok(1)),
         ("another answer", answer == differ(Differs::Answer)),
         ("another region", region == differ(Differs::Region)),
         ("another buffer", buffer == differ(Differs::Buffer)),
+        ("bytes beside the region", beside == differ(Differs::Beside)),
         ("no store", no_store == refused(NOT_A_STORE)),
     ]
 }
 
-/// A call made in both forms on a small region, with a small buffer.
-fn made(call: impl Fn(Form, &mut Guarded, &mut [u8]) -> Answer) -> Answer {
-    Guarded::new(&[7; 4]).twice(&mut [7; 2], call)
+/// A call made in both forms, 0 and 1, on a small region, with a small buffer.
+fn made(make: impl Fn(&mut Guarded, &mut [u8], u8) -> Answer) -> Answer {
+    let forms = [(Called::Insert, 0), (Called::KnownInsert, 1)];
+    Guarded::new(&[7; 4]).twice(forms, &mut [7; 2], |store, out, (_, form)| {
+        make(store, out, form)
+    })
 }

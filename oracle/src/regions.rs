@@ -41,6 +41,11 @@ impl Guarded {
         before.iter().all(|byte| *byte == GUARD).then_some(region)
     }
 
+    /// The bytes in front of the region.
+    pub fn before(&mut self) -> &mut [u8] {
+        &mut self.0[..BEFORE]
+    }
+
     /// The region as it is lent. It can be written also where a call only reads, so that a call that
     /// does write is noticed and not undefined.
     pub fn lent(&mut self) -> &mut [u8] {

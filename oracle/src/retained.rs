@@ -4,7 +4,7 @@ use crate::answers::Answer;
 use crate::cjumbradi::*;
 use crate::cjumbradi_known::*;
 use crate::counts::Called;
-use crate::known::Form;
+use crate::known::Forms;
 use crate::lent::Lent;
 use crate::library::{asked, UNWRITTEN};
 use crate::regions::{with_zero, Guarded, Listed};
@@ -20,11 +20,11 @@ pub struct Paged {
 impl Guarded {
     pub fn set(&mut self, name: &[u8], payload: u64, stored: Stored) -> Answer {
         let name = Lent::new(name);
-        self.twice(&mut [], |form, store, _| {
-            let (called, call) = match form {
-                Form::Tested => (Called::Set, cjumbradi_set as SetCall),
-                Form::Known => (Called::KnownSet, cjumbradi_known_set as SetCall),
-            };
+        let forms: Forms<SetCall> = [
+            (Called::Set, cjumbradi_set),
+            (Called::KnownSet, cjumbradi_known_set),
+        ];
+        self.twice(forms, &mut [], |store, _, (called, call)| {
             let lent = store.lent();
             // SAFETY: pointers and lengths are those of slices that do not overlap, and the answer
             // outlives the call.
@@ -45,11 +45,11 @@ impl Guarded {
     }
 
     pub fn sweep(&mut self, clock: u64) -> Answer {
-        self.twice(&mut [], |form, store, _| {
-            let (called, call) = match form {
-                Form::Tested => (Called::Sweep, cjumbradi_sweep as SweepCall),
-                Form::Known => (Called::KnownSweep, cjumbradi_known_sweep as SweepCall),
-            };
+        let forms: Forms<SweepCall> = [
+            (Called::Sweep, cjumbradi_sweep),
+            (Called::KnownSweep, cjumbradi_known_sweep),
+        ];
+        self.twice(forms, &mut [], |store, _, (called, call)| {
             let lent = store.lent();
             // SAFETY: as in `set`.
             asked(called, |removed| unsafe {
@@ -65,11 +65,11 @@ impl Guarded {
     /// The lookup into a buffer.
     pub fn lookup(&mut self, filter: &[u8], clock: u64, out: &mut [u8]) -> Answer<Listed> {
         let filter = Lent::new(filter);
-        self.twice(out, |form, store, out| {
-            let (called, call) = match form {
-                Form::Tested => (Called::Lookup, cjumbradi_lookup as LookupCall),
-                Form::Known => (Called::KnownLookup, cjumbradi_known_lookup as LookupCall),
-            };
+        let forms: Forms<LookupCall> = [
+            (Called::Lookup, cjumbradi_lookup),
+            (Called::KnownLookup, cjumbradi_known_lookup),
+        ];
+        self.twice(forms, out, |store, out, (called, call)| {
             // SAFETY: as in `set`, with a buffer that may be written.
             store.list(called, out, |lent, out, bytes, records| unsafe {
                 call(
@@ -89,11 +89,11 @@ impl Guarded {
 
     /// A page into a buffer. A refusal hands back also that no more follow.
     pub fn page(&mut self, clock: u64, offset: u64, limit: u64, out: &mut [u8]) -> Answer<Paged> {
-        self.twice(out, |form, store, out| {
-            let (called, call) = match form {
-                Form::Tested => (Called::Page, cjumbradi_page as PageCall),
-                Form::Known => (Called::KnownPage, cjumbradi_known_page as PageCall),
-            };
+        let forms: Forms<PageCall> = [
+            (Called::Page, cjumbradi_page),
+            (Called::KnownPage, cjumbradi_known_page),
+        ];
+        self.twice(forms, out, |store, out, (called, call)| {
             let mut more = UNWRITTEN;
             // SAFETY: as in `lookup`.
             let listed = store.list(called, out, |lent, out, bytes, records| unsafe {
