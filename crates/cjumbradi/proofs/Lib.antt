@@ -2,3 +2,4 @@ pub mod Openings
 pub mod Tellings
 pub mod Moments
 pub mod Settled
+pub mod Demand

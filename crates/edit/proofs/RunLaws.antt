@@ -10,7 +10,7 @@ use Rattle.held.specs.History.{Effect, refused, outcomeOf, outcome, verdict, re
 use Rattle.region.specs.Store.{roomAt}
 use Rattle.edit.specs.declared.Changed.{Changed}
 use Rattle.edit.specs.declared.Changed.the-variants.{Done, Refused}
-use Rattle.edit.specs.Calls.{StoreKind, toldAs, Step}
+use Rattle.edit.specs.Calls.{StoreKind, toldAs, Step, Calls, Does}
 use Rattle.edit.specs.Runs.{refusedForRoom, Runs, ended, called, Empty}
 use Rattle.held.proofs.Orders.{and-both}
 
@@ -43,7 +43,11 @@ module _ {C H : Type 0} (k : StoreKind C H) where
 
   pub run-holds : {cs : List C} {s t : List ℕ} → k .Store s → Runs k cs s t → RunHolds k cs s t
   run-holds st ended = record { store = st; holds = refl; roomy = refl }
-  run-holds st (called {c = c} {cs = cs} {s = s} {t = t} {u = u} {r = r} a q rest) = let b = a .on-store st in on c cs s t u r b q (run-holds (b .store) rest)
+  run-holds st (called {c = c} {cs = cs} {s = s} {t = t} {u = u} {r = r} a q rest) = let b = a .does st in on c cs s t u r b q (run-holds (b .store) rest)
+
+-- a call that tests the region does on a store what the one does that does not
+pub calls-do : {C H : Type 0} (k : StoreKind C H) {c : C} {s t : List ℕ} {r : Changed} → Calls k c s t r → Does k c s t r
+calls-do k a = record { does = a .on-store }
 
 -- what a run makes of a store that holds nothing
 pub from-empty : {C X : Type 0} (k : StoreKind C (List X)) {cs : List C} {s t : List ℕ} → Empty k s → Runs k cs s t

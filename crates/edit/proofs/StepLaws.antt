@@ -2,14 +2,13 @@
 -- nothing.
 use mathlib.Core.Path.{_≡_, refl, sym, ap, _∙_}
 use mathlib.Core.Bool.{cond}
-use mathlib.Core.List.{List}
+use mathlib.Core.List.{List, _++_}
 use Prim.Native.Nat.{ℕ}
 use Rattle.refusal.specs.declared.Refusal.{Refusal}
 use Rattle.topic.specs.Rules.{Rule}
 use Rattle.topic.specs.Answers.{checked}
 use Rattle.topic.specs.declared.Checked.{Checked}
 use Rattle.topic.specs.declared.Checked.the-variants.{Accepted, Refused as NotAccepted}
-use Rattle.topic.proofs.RuleLaws.{orElse, checked-append}
 use Rattle.held.specs.History.{Effect, verdict, answered, outcomeOf, outcome, accepted, result}
 use Rattle.held.specs.Forest.{Forest}
 use Rattle.held.proofs.RoomLaws.{text-first, refused-stays}
@@ -22,11 +21,6 @@ use Rattle.edit.specs.Calls.{StoreKind, Step, Does}
 -- a text that was tested and accepted
 pub text-accepted : (rules : List Rule) {k : Checked} → k ≡ checked rules → k ≡ Accepted → checked rules ≡ Accepted
 text-accepted rules e q = sym e ∙ q
-
--- the rules for room decide where the text is accepted
-pub verdict-is : {H : Type 0} (e : Effect H) → checked (e .texts) ≡ Accepted → verdict e ≡ checked (e .rooms)
-unfolding verdict
-verdict-is e h = checked-append (e .texts) (e .rooms) ∙ ap (λ (v : Checked). orElse v (checked (e .rooms))) h
 
 pub accepted-does : {H : Type 0} (e : Effect H) (h : H) → verdict e ≡ Accepted → (outcome e ≡ answered (e .answer)) × (result e h ≡ e .after)
 unfolding outcome result
@@ -63,5 +57,5 @@ module _ {C H : Type 0} (k : StoreKind C H) (s : List ℕ) (call : C) where
       }
 
   -- a text that is refused, whatever the region holds
-  pub text-refused : {c : Checked} {x : Refusal} → c ≡ checked (e .texts) → c ≡ NotAccepted x → Does k call s s (Refused x)
-  text-refused {x = x} q z = record { does = λ (st : k .Store s). refused-step st x (text-first e x (sym q ∙ z)) }
+  pub text-refused : (front back : List Rule) → e .texts ++ e .rooms ≡ front ++ back → {c : Checked} {x : Refusal} → c ≡ checked front → c ≡ NotAccepted x → Does k call s s (Refused x)
+  text-refused front back all {x = x} q z = record { does = λ (st : k .Store s). refused-step st x (text-first e front back all x (sym q ∙ z)) }

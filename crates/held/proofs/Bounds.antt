@@ -19,7 +19,7 @@ use Rattle.held.specs.Order.{Filter, sameFilter, filterLt, samePair, pai
 use Rattle.held.specs.Ascending.{All, keep}
 use Rattle.held.specs.Room.{Room, upTo, inRange, roomRules, depthRule}
 use Rattle.held.specs.History.{verdict, accepted, run}
-use Rattle.held.specs.Subscriptions.{Pair, AscPairs, isHeld, insertHeld, removeHeld, Call, insert, remove, subscriptions, pairOf, valuesOf, listing}
+use Rattle.held.specs.Subscriptions.{Pair, AscPairs, isHeld, insertHeld, removeHeld, Call, insert, remove, insertRules, subscriptions, pairOf, valuesOf, listing}
 use Rattle.held.specs.Retained.{Named, setHeld, eraseHeld, expired, unexpired, sweepHeld, Call as Change, set, sweep, retained, lookup, left, all, page}
 use Rattle.held.proofs.Orders.{and-left, and-right}
 use Rattle.held.proofs.Entries.{all-keep, all-put, all-map, all-with, all-take, all-drop}
@@ -72,20 +72,20 @@ sized-after : (r : Room) (c : Call) (h : List Pair) → SmallCall c → accepted
 unfolding insertHeld removeHeld verdict
 sized-after r (insert s v) h q e a =
     all-put SizedPair pairLt (λ p. p) (split s, v) h
-    (record { text = filter-written s (both-accepted (filterRules s) ((subscriptions r (insert s v) h) .rooms) e .0); value = q }) a
+    (record { text = filter-written s (both-accepted (filterRules s) (depthRule s ∷ (subscriptions r (insert s v) h) .rooms) e .0); value = q }) a
 sized-after r (remove s v) h q e a = all-keep SizedPair (λ p. not (samePair (split s, v) p)) h a
 
 pub run-sized : (r : Room) (cs : List Call) → All SmallCall cs → All SizedPair (run subscriptions r cs [])
 run-sized r cs q = run-keeps subscriptions r (All SizedPair) SmallCall (sized-after r) cs [] q tt
 
 -- and no more pairs are held than there is room for
-few-inserted : (r : Room) (s : List ℕ) (p : Pair) (h : List Pair) → AscPairs h → length h ≤ r .pairs
-    → accepted (checked (depthRule s ∷ roomRules r (isHeld p h) (insertHeld p h))) ≡ true → length (insertHeld p h) ≤ r .pairs
-few-inserted r s p h a l e = go (isHeld p h) refl e
+few-inserted : (r : Room) (p : Pair) (h : List Pair) → AscPairs h → length h ≤ r .pairs
+    → accepted (checked (roomRules r (isHeld p h) (insertHeld p h))) ≡ true → length (insertHeld p h) ≤ r .pairs
+few-inserted r p h a l e = go (isHeld p h) refl e
   where
-    go : (t : Bool) → isHeld p h ≡ t → accepted (checked (depthRule s ∷ roomRules r t (insertHeld p h))) ≡ true → length (insertHeld p h) ≤ r .pairs
+    go : (t : Bool) → isHeld p h ≡ t → accepted (checked (roomRules r t (insertHeld p h))) ≡ true → length (insertHeld p h) ≤ r .pairs
     go true q b = rw (length-insert p h a, q) l
-    go false q b = room-within s r (insertHeld p h) b .pairs
+    go false q b = room-within r (insertHeld p h) b .pairs
 
 few-removed : (p : Pair) (h : List Pair) → length (removeHeld p h) ≤ length h
 unfolding removeHeld
@@ -97,7 +97,7 @@ Few r h = AscPairs h × (length h ≤ r .pairs)
 few-after : (r : Room) (c : Call) (h : List Pair) → accepted (verdict (subscriptions r c h)) ≡ true → Few r h → Few r ((subscriptions r c h) .after)
 unfolding verdict
 few-after r (insert s v) h e a =
-    (pairs-insert (split s, v) h (a .0), few-inserted r s (split s, v) h (a .0) (a .1) (both-accepted (filterRules s) ((subscriptions r (insert s v) h) .rooms) e .1))
+    (pairs-insert (split s, v) h (a .0), few-inserted r (split s, v) h (a .0) (a .1) (both-accepted (insertRules s) ((subscriptions r (insert s v) h) .rooms) e .1))
 few-after r (remove s v) h e a = (pairs-remove (split s, v) h (a .0), omega (arith, few-removed (split s, v) h, a .1))
 
 pub run-few : (r : Room) (cs : List Call) → length (run subscriptions r cs []) ≤ r .pairs
@@ -134,7 +134,7 @@ unfolding setHeld eraseHeld sweepHeld verdict
 names-sized-after r (set s zero x) h q e a = all-keep SizedName (λ e. not (sameFilter (split s) (e .0))) h a
 names-sized-after r (set s (suc n) x) h q e a =
     all-put SizedName filterLt (λ e. e .0) (split s, x) h
-    (record { text = name-written s (both-accepted (nameRules s) ((retained r (set s (suc n) x) h) .rooms) e .0); small = q }) a
+    (record { text = name-written s (both-accepted (nameRules s) (depthRule s ∷ (retained r (set s (suc n) x) h) .rooms) e .0); small = q }) a
 names-sized-after r (sweep now) h q e a = all-keep SizedName (λ e. unexpired now (e .1)) h a
 
 pub run-names-sized : (r : Room) (cs : List Change) → All SmallChange cs → All SizedName (run retained r cs [])

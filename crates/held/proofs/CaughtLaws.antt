@@ -6,6 +6,7 @@ use mathlib.Core.List.{List, [], _∷_, map}
 use mathlib.Core.Option.{Option, none, some}
 use native.Mathlib.Omega.{arith}
 use lib.Dec.{eqb, ltb}
+use lib.ListN.{length}
 use Rattle.level.specs.Levels.{split}
 use Rattle.topic.specs.Match.{match47}
 use Rattle.held.specs.Order.{Filter, sameFilter, filterLt, samePair, pairLt, listingLt}
@@ -120,13 +121,15 @@ listing-some : (n : Filter) (h : List Pair) → All (λ (r : Filter × List ℕ)
 listing-some n h = listing-all (λ (r : Filter × List ℕ). r .1 ≡ [] → ⊥) n h (values-some h)
 
 -- after a history in which none is refused for room
-pub history-caught : (r : Room) (cs : List Call) → hasRoom subscriptions r cs [] ≡ true → (name : List ℕ) → Caught cs name (listingBytes (split name) (run subscriptions r cs []))
+pub history-caught : (r : Room) (cs : List Call) → hasRoom subscriptions r cs [] ≡ true → (name : List ℕ)
+    → Caught cs name (listingBytes (split name) (run subscriptions r cs [])) (length (listing (split name) (run subscriptions r cs [])))
 unfolding listingBytes isHeld
 history-caught r cs room name =
     let h : List Pair = run subscriptions r cs [] in
     record {
       records = listing (split name) h;
       written = refl;
+      counted = refl;
       exactly = λ p. listed-exactly p (split name) h ∙ ap (λ (b : Bool). b && match47 (p .0) (split name)) (history-held p r cs [] room);
       in-order = listing-asc (split name) h;
       some-value = listing-some (split name) h;

@@ -4,13 +4,14 @@ use Prim.Native.Nat.{ℕ}
 use mathlib.Core.Bool.{Bool, true, false, not, cond, _&&_, _||_}
 use mathlib.Core.List.{List, [], _∷_, map}
 use mathlib.Core.Option.{Option, none, some}
+use lib.Dec.{eqb}
 use Rattle.topic.specs.Match.{match47}
 use Rattle.held.specs.Order.{Filter, sameFilter, samePair}
-use Rattle.held.specs.Ascending.{keep}
+use Rattle.held.specs.Ascending.{find, passed, keep}
 use Rattle.held.specs.Subscriptions.{Pair, AscPairs, isHeld, insertHeld, removeHeld, valuesOf, listing}
-use Rattle.held.specs.Retained.{Stored, Named, AscNames, hasFilter, setHeld, eraseHeld, unexpired, sweepHeld, lookup}
+use Rattle.held.specs.Retained.{Stored, Named, AscNames, hasFilter, stored, setHeld, eraseHeld, unexpired, sweepHeld, lookup}
 use Rattle.held.proofs.Orders.{same-sym, filter-order, pair-order}
-use Rattle.held.proofs.Stores.{find, passed, isSome, find-put, find-keep, asc-keep, find-where, asc-put, ext}
+use Rattle.held.proofs.Stores.{isSome, find-put, find-keep, asc-keep, find-where, asc-put, ext}
 use Rattle.held.proofs.Sets.{member-put, member-keep, set-put, set-keep, set-ext}
 use Rattle.held.proofs.Listing.{some-of, listing-finds}
 
@@ -35,10 +36,7 @@ pub pairs-settled : (h g : List Pair) → AscPairs h → AscPairs g → ((p : Pa
 unfolding isHeld
 pairs-settled h g a b e = set-ext pair-order h g a b e
 
--- Retained: the record of a name
-unfoldable pub stored : Filter → List Named → Option Stored
-stored n h = find sameFilter (λ e. e .0) (λ e. e .1) n h
-
+-- Retained
 pub names-settled : (h g : List Named) → AscNames h → AscNames g → ((n : Filter) → stored n h ≡ stored n g) → h ≡ g
 unfolding stored
 names-settled h g a b e = ext (λ e. e .0) (λ e. e .1) filter-order (λ p q i j. λ t. (i t, j t)) h g a b e
@@ -115,6 +113,16 @@ has-values {X} f (p ∷ h) = go (sameFilter f (p .0)) (has-values f h)
         → isSome (some-of (map (λ p. p .1) (cond t (p ∷ keep (λ p. sameFilter f (p .0)) h) (keep (λ p. sameFilter f (p .0)) h)))) ≡ (t || hasFilter f h)
     go true e = refl
     go false e = e
+
+-- the filter of a held pair is held
+pub pair-filter : (f : Filter) (v : ℕ) (h : List Pair) → isHeld (f, v) h ≡ true → hasFilter f h ≡ true
+unfolding isHeld hasFilter
+pair-filter f v [] e = e
+pair-filter f v (p ∷ h) e = go (sameFilter f (p .0)) (pair-filter f v h) e
+  where
+    go : (t : Bool) → (isHeld (f, v) h ≡ true → hasFilter f h ≡ true) → ((t && eqb v (p .1)) || isHeld (f, v) h) ≡ true → (t || hasFilter f h) ≡ true
+    go true i e = refl
+    go false i e = i e
 
 -- a held filter is listed for a name exactly when it matches
 pub listed-is : (f n : Filter) (h : List Pair) → hasFilter f h ≡ true → hasFilter f (listing n h) ≡ match47 f n

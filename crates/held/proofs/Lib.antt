@@ -9,6 +9,7 @@ pub mod HeldLaws
 pub mod RoomLaws
 pub mod Histories
 pub mod CaughtLaws
+pub mod FoundLaws
 pub mod Lengths
 pub mod Walks
 pub mod Rule

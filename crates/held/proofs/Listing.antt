@@ -5,11 +5,11 @@ use mathlib.Core.List.{List, [], _∷_, map}
 use mathlib.Core.Option.{Option, none, some}
 use Rattle.topic.specs.Match.{match47}
 use Rattle.held.specs.Order.{Filter, sameFilter, listingLt}
-use Rattle.held.specs.Ascending.{All, keep, Asc}
+use Rattle.held.specs.Ascending.{find, All, keep, Asc}
 use Rattle.held.specs.Subscriptions.{valuesOf, listing}
 use Rattle.held.proofs.Orders.{filter-order, listing-order}
 use Rattle.held.proofs.Entries.{all-keep, all-sort, all-map}
-use Rattle.held.proofs.Stores.{find, orElse, find-sort, find-keep, asc-sort, ext}
+use Rattle.held.proofs.Stores.{orElse, find-sort, find-keep, asc-sort, ext}
 
 -- the values, where there are some
 abbrev pub some-of : {X : Type 0} → List X → Option (List X)

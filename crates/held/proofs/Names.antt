@@ -7,13 +7,13 @@ use mathlib.Core.Option.{Option, none, some}
 use Rattle.held.specs.Order.{Level, Filter, sameFilter, filterLt}
 use Rattle.held.specs.Ascending.{keep, Asc}
 use Rattle.held.specs.Subscriptions.{valuesOf}
-use Rattle.held.specs.Retained.{Stored, Named, AscNames, hasFilter, setHeld, eraseHeld, unexpired, sweepHeld}
+use Rattle.held.specs.Retained.{Stored, Named, AscNames, hasFilter, stored, setHeld, eraseHeld, unexpired, sweepHeld}
 use Rattle.held.specs.Forest.{Forest, leaf, fork, under, held, Over, Rows, Owns, Full, Single, WellNamed}
 use Rattle.held.specs.Walks.{hit, kid, valuesAt}
 use Rattle.held.specs.Edit.{growF, pruned, cutF, sweepF, setF, eraseF}
 use Rattle.held.proofs.Orders.{lex-tail, level-order, filter-order}
 use Rattle.held.proofs.Stores.{isSome, null}
-use Rattle.held.proofs.HeldLaws.{stored, names-settled, names-set, names-erase, stored-set, stored-erase, has-stored}
+use Rattle.held.proofs.HeldLaws.{names-settled, names-set, names-erase, stored-set, stored-erase, has-stored}
 use Rattle.held.proofs.Walks.{values-held}
 use Rattle.held.proofs.Lookup.{keep-append, keep-map}
 use Rattle.held.proofs.Edits.{at-grow, at-cut, over-pruned, rows-pruned, rows-grow, rows-cut}

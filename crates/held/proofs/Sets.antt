@@ -3,9 +3,9 @@ use mathlib.Core.Path.{_≡_, refl, sym, ap, _∙_}
 use mathlib.Core.Bool.{Bool, true, false, cond, _&&_, _||_}
 use mathlib.Core.List.{List, [], _∷_}
 use mathlib.Core.Option.{Option, none, some}
-use Rattle.held.specs.Ascending.{member, keep, Asc, put, sort}
+use Rattle.held.specs.Ascending.{member, find, keep, Asc, put, sort}
 use Rattle.held.proofs.Orders.{Order}
-use Rattle.held.proofs.Stores.{find, isSome, find-put, find-sort, find-keep, asc-keep, asc-put, asc-sort, ext}
+use Rattle.held.proofs.Stores.{isSome, find-put, find-sort, find-keep, asc-keep, asc-put, asc-sort, ext}
 
 module _ {K : Type 0} {eq lt : K → K → Bool} (o : Order eq lt) where
   -- a set is a store whose values say nothing

@@ -3,23 +3,13 @@ use mathlib.Core.Path.{_≡_, refl, sym, ap, _∙_}
 use mathlib.Core.Bool.{Bool, true, false, cond, true≢false}
 use mathlib.Core.List.{List, [], _∷_, _++_}
 use mathlib.Core.Option.{Option, none, some}
-use Rattle.held.specs.Ascending.{keep, Below, Asc, put, sort}
+use Rattle.held.specs.Ascending.{find, passed, keep, Below, Asc, put, sort}
 use Rattle.held.proofs.Orders.{Order, Tri, lower, alike, higher, tri, eq-same, eq-lower}
-
--- the value of the entry with the key k
-abbrev pub find : {E K W : Type 0} → (K → K → Bool) → (E → K) → (E → W) → K → List E → Option W
-find eq key val k [] = none
-find eq key val k (e ∷ l) = cond (eq k (key e)) (some (val e)) (find eq key val k l)
 
 -- the first that there is
 abbrev pub orElse : {W : Type 0} → Option W → Option W → Option W
 orElse none b = b
 orElse (some w) b = some w
-
--- a value, if it passes a test
-abbrev pub passed : {W : Type 0} → (W → Bool) → Option W → Option W
-passed q none = none
-passed q (some w) = cond (q w) (some w) none
 
 abbrev pub isSome : {W : Type 0} → Option W → Bool
 isSome none = false

@@ -2,6 +2,7 @@
 use mathlib.Core.Path.{_≡_}
 use mathlib.Core.Bool.{Bool, true, false, cond, _||_}
 use mathlib.Core.List.{List, [], _∷_}
+use mathlib.Core.Option.{Option, none, some}
 
 -- some entry passes a test
 abbrev pub any : {E : Type 0} → (E → Bool) → List E → Bool
@@ -10,6 +11,16 @@ any p (e ∷ l) = p e || any p l
 
 abbrev pub member : {K : Type 0} → (K → K → Bool) → K → List K → Bool
 member eq k l = any (eq k) l
+
+-- what stands with the first entry whose key is k
+abbrev pub find : {E K W : Type 0} → (K → K → Bool) → (E → K) → (E → W) → K → List E → Option W
+find eq key val k [] = none
+find eq key val k (e ∷ l) = cond (eq k (key e)) (some (val e)) (find eq key val k l)
+
+-- what was found, if it passes a test
+abbrev pub passed : {W : Type 0} → (W → Bool) → Option W → Option W
+passed q none = none
+passed q (some w) = cond (q w) (some w) none
 
 -- every entry has a property
 abbrev pub All : {E : Type 0} → (E → Type 0) → List E → Type 0

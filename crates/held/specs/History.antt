@@ -11,14 +11,14 @@ use Rattle.topic.specs.declared.Checked.{Checked}
 use Rattle.topic.specs.declared.Checked.the-variants.{Accepted, Refused}
 use Rattle.held.specs.Room.{Room}
 
--- a call on what is held: the rules of its text and those for room, what it answers, and what is held after it
+-- a call on what is held: the rules of its text, its depth among them, and those for room; what it answers, and what is held after it
 pub record Effect (H : Type 0) : Type 0 where
   pub texts : List Rule
   pub rooms : List Rule
   pub answer : ℕ
   pub after : H
 
--- "Order: .. 1 to 9, then 12 to 15"
+-- "Order: .. 1 to 9, then 12 to 15": 12 is the last rule of a text
 unfoldable pub verdict : {H : Type 0} → Effect H → Checked
 verdict e = checked (e .texts ++ e .rooms)
 
@@ -51,10 +51,15 @@ abbrev pub run : {C H : Type 0} → Kind C H → Room → List C → H → H
 run k r [] h = h
 run k r (c ∷ cs) h = run k r cs (result (k r c h) h)
 
--- no call of a history is refused for room, by 12 to 15
+-- what a history says of one thing, call after call, where `said` is what a call says of it and of what was said before
+abbrev pub inTurn : {C W : Type 0} → (said : C → W → W) → List C → W → W
+inTurn said [] before = before
+inTurn said (c ∷ cs) before = inTurn said cs (said c before)
+
+-- no call of a history is refused for room, by 13 to 15; 12 depends on the text alone, as 1 to 9 do
 abbrev pub forRoom : Checked → Bool
 forRoom Accepted = false
-forRoom (Refused r) = leb 12 (told r .number) && leb (told r .number) 15
+forRoom (Refused r) = leb 13 (told r .number) && leb (told r .number) 15
 
 abbrev pub hasRoom : {C H : Type 0} → Kind C H → Room → List C → H → Bool
 hasRoom k r [] h = true

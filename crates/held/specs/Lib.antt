@@ -5,6 +5,7 @@ pub mod History
 pub mod Bytes
 pub mod Subscriptions
 pub mod Caught
+pub mod Found
 pub mod Retained
 pub mod Sized
 pub mod Forest

@@ -1,4 +1,5 @@
 -- TO BELIEVE. The store of retained names: what it holds, its calls, lookups and pages (document 01, 'Store rules', 'Orders and records'). Assumes nothing.
+use mathlib.Core.Path.{_≡_}
 use Prim.Native.Nat.{ℕ, zero, suc, _+_, _-_}
 use mathlib.Core.Bool.{Bool, true, false, not, cond, _&&_}
 use mathlib.Core.List.{List, [], _∷_, _++_, map}
@@ -9,10 +10,11 @@ use Rattle.lent.specs.Numbers.{bytes}
 use Rattle.level.specs.Levels.{split, join}
 use Rattle.topic.specs.Match.{match47}
 use Rattle.topic.specs.Rules.{Rule, nameRules, filterRules}
+use Rattle.topic.specs.Answers.{checked}
 use Rattle.held.specs.Order.{Filter, sameFilter, filterLt}
-use Rattle.held.specs.Ascending.{member, keep, Asc, put}
+use Rattle.held.specs.Ascending.{member, find, keep, Asc, put}
 use Rattle.held.specs.Room.{roomRules, depthRule}
-use Rattle.held.specs.History.{Kind}
+use Rattle.held.specs.History.{accepted, Kind}
 use Rattle.held.specs.Bytes.{each, lengthRule}
 
 -- "one record per name: handle (u32) and a moment or none (u64 ms)", strictly ascending by the names
@@ -29,6 +31,10 @@ AscNames h = Asc filterLt (λ e. e .0) h
 -- a name (in the other store, a filter) is held
 unfoldable pub hasFilter : {X : Type 0} → Filter → List (Filter × X) → Bool
 hasFilter f h = member sameFilter f (map (λ e. e .0) h)
+
+-- the record of a name
+unfoldable pub stored : Filter → List Named → Option Stored
+stored n h = find sameFilter (λ e. e .0) (λ e. e .1) n h
 
 unfoldable pub setHeld : Filter → Stored → List Named → List Named
 setHeld n s h = put filterLt (λ e. e .0) (n, s) h
@@ -52,6 +58,10 @@ pub data Call : Type 0 where
   set : (name : List ℕ) (payload : ℕ) (new : Stored) → Call
   sweep : (now : ℕ) → Call
 
+-- the rules of a name that is to be held
+abbrev pub setRules : List ℕ → List Rule
+setRules s = nameRules s ++ depthRule s ∷ []
+
 abbrev pub retained : Kind Call (List Named)
 -- "0 erases (3 if held, 4 if not)"
 retained r (set s zero x) h =
@@ -59,8 +69,8 @@ retained r (set s zero x) h =
 -- "else 1 new, 2 replaced, also when the old record has expired"
 retained r (set s (suc n) x) h =
     record {
-      texts = nameRules s;
-      rooms = depthRule s ∷ roomRules r (hasFilter (split s) h) (setHeld (split s) x h);
+      texts = setRules s;
+      rooms = roomRules r (hasFilter (split s) h) (setHeld (split s) x h);
       answer = cond (hasFilter (split s) h) 2 1;
       after = setHeld (split s) x h;
     }
@@ -75,6 +85,9 @@ about n (sweep now) = true
 
 unfoldable pub callsOf : Filter → List Call → List Call
 callsOf n cs = keep (about n) cs
+
+abbrev pub SameCalls : List Call → List Call → Type 0
+SameCalls cs ds = (n : Filter) → accepted (checked (setRules (join n))) ≡ true → callsOf n cs ≡ callsOf n ds
 
 -- the lookup of a filter at now: the names that it matches (4.7) and that have not expired, in the order of the names
 unfoldable pub lookup : Filter → ℕ → List Named → List Named

@@ -1,4 +1,4 @@
--- TO BELIEVE. The room in use, counted from what is held, and the refusals 12 to 15 (document 01, 'Store rules' and 'Refusal numbers'). Assumes nothing.
+-- TO BELIEVE. The room in use, counted from what is held, and the refusals 13 to 15; the depth of a text, and refusal 12 (document 01, 'Store rules' and 'Refusal numbers'). Assumes nothing.
 -- What is held is a list of filters, or names, each with a value or a record.
 use Prim.Native.Nat.{ℕ, _+_, _/_}
 use mathlib.Core.Bool.{Bool, not, cond, _&&_, _||_}

@@ -1,16 +1,18 @@
 -- TO BELIEVE. The store of subscriptions: what it holds, its calls, and the listing for a name (document 01, 'Store rules', 'Orders and records'). Assumes nothing.
+use mathlib.Core.Path.{_≡_}
 use Prim.Native.Nat.{ℕ}
-use mathlib.Core.Bool.{Bool, not, cond}
+use mathlib.Core.Bool.{Bool, true, not, cond}
 use mathlib.Core.List.{List, [], _∷_, _++_, map}
 use lib.ListN.{length}
 use Rattle.lent.specs.Numbers.{bytes}
 use Rattle.level.specs.Levels.{split, join}
 use Rattle.topic.specs.Match.{match47}
 use Rattle.topic.specs.Rules.{Rule, nameRules, filterRules}
+use Rattle.topic.specs.Answers.{checked}
 use Rattle.held.specs.Order.{Filter, sameFilter, samePair, pairLt, listingLt}
 use Rattle.held.specs.Ascending.{any, member, keep, Asc, put, sort}
 use Rattle.held.specs.Room.{roomRules, depthRule}
-use Rattle.held.specs.History.{Kind}
+use Rattle.held.specs.History.{accepted, Kind}
 use Rattle.held.specs.Bytes.{each, lengthRule}
 
 -- "The store holds a set of pairs: a filter and a value (u32)": the set as the one strictly ascending list of it
@@ -34,12 +36,16 @@ pub data Call : Type 0 where
   insert : (filter : List ℕ) (value : ℕ) → Call
   remove : (filter : List ℕ) (value : ℕ) → Call
 
+-- the rules of a text that is to be held
+abbrev pub insertRules : List ℕ → List Rule
+insertRules s = filterRules s ++ depthRule s ∷ []
+
 abbrev pub subscriptions : Kind Call (List Pair)
 -- "Insert answers 1 if new, 0 if held already."
 subscriptions r (insert s v) h =
     record {
-      texts = filterRules s;
-      rooms = depthRule s ∷ roomRules r (isHeld (split s, v) h) (insertHeld (split s, v) h);
+      texts = insertRules s;
+      rooms = roomRules r (isHeld (split s, v) h) (insertHeld (split s, v) h);
       answer = cond (isHeld (split s, v) h) 0 1;
       after = insertHeld (split s, v) h;
     }
@@ -54,6 +60,10 @@ pairOf (remove s v) = (split s, v)
 
 unfoldable pub callsOf : Pair → List Call → List Call
 callsOf p cs = keep (λ c. samePair p (pairOf c)) cs
+
+-- "the same calls, each pair's in the same order": for the pairs that can be held, since of others nothing ever is
+abbrev pub SameCalls : List Call → List Call → Type 0
+SameCalls cs ds = (p : Pair) → accepted (checked (insertRules (join (p .0)))) ≡ true → callsOf p cs ≡ callsOf p ds
 
 -- the values of a filter, ascending as they are held
 unfoldable pub valuesOf : {X : Type 0} → Filter → List (Filter × X) → List X

@@ -15,10 +15,11 @@ use Rattle.topic.specs.declared.Checked.{Checked}
 use Rattle.topic.specs.declared.Checked.the-variants.{Accepted, Refused as NotAccepted}
 use Rattle.held.specs.Order.{Filter, sameFilter}
 use Rattle.held.specs.Ascending.{All}
-use Rattle.held.specs.Room.{roomRules}
+use Rattle.held.specs.Room.{roomRules, depthRule}
 use Rattle.held.specs.Retained.{Stored, Named, hasFilter, setHeld, Call, set, sweep, retained}
 use Rattle.held.specs.History.{accepted, answered}
 use Rattle.held.proofs.Orders.{filter-order}
+use Rattle.held.proofs.RoomLaws.{text-passed}
 use Rattle.held.proofs.Texts.{name-written}
 use Rattle.held.proofs.Stores.{null}
 use Rattle.region.specs.Units.{storedOf}
@@ -37,7 +38,7 @@ use Rattle.sweep.proofs.StoreLaws.{store-swept}
 use Rattle.edit.specs.declared.Changed.{Changed}
 use Rattle.edit.specs.declared.Changed.the-variants.{Done, Refused}
 use Rattle.edit.specs.Calls.{Does}
-use Rattle.edit.proofs.StepLaws.{verdict-is, accepted-does, text-refused}
+use Rattle.edit.proofs.StepLaws.{accepted-does, text-refused}
 use Rattle.edit.proofs.KnownPath.{deep-rule, no-units-told, stands}
 use Rattle.retain.specs.Calls.{heldIn, retainedStore}
 use Rattle.retain.specs.Erasing.{Erases}
@@ -108,8 +109,9 @@ erases f x s t payload e d = rw e (d .does x)
 
 -- whatever the payload, the name is tested first
 pub name-refused : (f : List ℕ) (x : Stored) (s : List ℕ) (payload : ℕ) {k : Checked} {r : Refusal} → k ≡ checked (nameRules f) → k ≡ NotAccepted r → Does retainedStore (set f payload x) s s (Refused r)
-name-refused f x s zero q z = text-refused retainedStore s (set f 0 x) q z
-name-refused f x s (suc k) q z = text-refused retainedStore s (set f (suc k) x) q z
+name-refused f x s zero q z = text-refused retainedStore s (set f 0 x) (nameRules f) [] refl q z
+name-refused f x s (suc k) q z =
+    text-refused retainedStore s (set f (suc k) x) (nameRules f) (depthRule f ∷ roomRules (roomAt s) (hasFilter (split f) (heldIn s)) (setHeld (split f) x (heldIn s))) refl q z
 
 -- the units that a walk is lent, and a store that was swept
 module _ (s : List ℕ) {base n room : ℕ} (units : UnitsOf s base n room) where
@@ -122,7 +124,7 @@ module _ (s : List ℕ) {base n room : ℕ} (units : UnitsOf s base n room) wher
         does = λ (st : RetainedStore s).
             let w = store-swept clock base n room s t k x units st in
             let e = retained (roomAt s) (sweep clock) (heldIn s) in
-            let a = accepted-does e (heldIn s) (verdict-is e refl) in
+            let a = accepted-does e (heldIn s) (text-passed e [] [] refl refl) in
             record {
               told = ap answered (w .count) ∙ sym (a .0);
               store = w .store;

@@ -19,7 +19,7 @@ use Rattle.held.specs.Forest.{Forest, held, WellNamed}
 use Rattle.held.specs.Edit.{setF, eraseF}
 use Rattle.held.proofs.Entries.{all-put, all-keep}
 use Rattle.held.proofs.ByTexts.{set-text, erase-text}
-use Rattle.held.proofs.RoomLaws.{held-accepted}
+use Rattle.held.proofs.RoomLaws.{held-accepted, text-passed}
 use Rattle.region.specs.Units.{storedOf}
 use Rattle.region.specs.Store.{roomAt, forestAt, Accepts, RetainedStore}
 use Rattle.region.proofs.Instances.{records}
@@ -27,7 +27,7 @@ use Rattle.change.proofs.EditLaws.{Becomes}
 use Rattle.change.proofs.StoreLaws.{holds-retained}
 use Rattle.edit.specs.declared.Changed.the-variants.{Done, Refused}
 use Rattle.edit.specs.Calls.{Step}
-use Rattle.edit.proofs.StepLaws.{verdict-is, refused-step, same-step, changed-step}
+use Rattle.edit.proofs.StepLaws.{refused-step, same-step, changed-step}
 use Rattle.retain.specs.Calls.{heldIn, retainedStore}
 
 -- a name that is not held is not among what is held
@@ -55,7 +55,7 @@ module _ (s : List ℕ) (st : RetainedStore s) where
     rooms = depthRule f ∷ roomRules (roomAt s) (hasFilter (split f) (heldIn s)) (setHeld (split f) x (heldIn s))
 
     set-verdict : verdict (retained (roomAt s) (set f 1 x) (heldIn s)) ≡ checked rooms
-    set-verdict = verdict-is (retained (roomAt s) (set f 1 x) (heldIn s)) fine
+    set-verdict = text-passed (retained (roomAt s) (set f 1 x) (heldIn s)) (nameRules f) rooms refl fine
 
     pub set-refused : (r : Refusal) → checked rooms ≡ NotAccepted r → Step retainedStore (set f 1 x) s s (Refused r)
     set-refused r e = refused-step retainedStore s (set f 1 x) st r (set-verdict ∙ e)
@@ -80,7 +80,7 @@ module _ (s : List ℕ) (st : RetainedStore s) where
   -- erasing
   module _ (f : List ℕ) (x : Stored) (fine : checked (nameRules f) ≡ Accepted) where
     erase-verdict : verdict (retained (roomAt s) (set f 0 x) (heldIn s)) ≡ Accepted
-    erase-verdict = verdict-is (retained (roomAt s) (set f 0 x) (heldIn s)) fine
+    erase-verdict = text-passed (retained (roomAt s) (set f 0 x) (heldIn s)) (nameRules f) [] refl fine
 
     pub erase-none : hasFilter (split f) (heldIn s) ≡ false → Step retainedStore (set f 0 x) s s (Done 4)
     erase-none e = same-step retainedStore s (set f 0 x) st 4 erase-verdict (rw e) (keep-others (split f) (heldIn s) e)

@@ -51,19 +51,22 @@ module _ (s : List ℕ) (st : RetainedStore s) (f : List ℕ) where
         let z : split f ≡ first f ∷ after f = split-cons f in
         rw z (rules-set (roomAt s) (first f) (after f) x F (st .well))
 
-    pub rooms-are : checked (depthRule f ∷ roomRules (roomAt s) (hasFilter (split f) (heldIn s)) (setHeld (split f) x (heldIn s))) ≡ fitting s (length (missing (split f) F)) (weigh levelCells (missing (split f) F))
-    rooms-are =
+    only-rooms : checked (roomRules (roomAt s) (hasFilter (split f) (heldIn s)) (setHeld (split f) x (heldIn s))) ≡ fitting s (length (missing (split f) F)) (weigh levelCells (missing (split f) F))
+    only-rooms =
         let full : roomRules (roomAt s) (hasFilter (split f) (heldIn s)) (setHeld (split f) x (heldIn s))
         ≡ fullRules (roomAt s) false (sizeF F + weigh (λ t. 1) (missing (split f) F)) (suc (length (held F))) (cellsF F + weigh levelCells (missing (split f) F)) =
         full-rules ∙ rw e in
-        depth-first f few (roomRules (roomAt s) (hasFilter (split f) (heldIn s)) (setHeld (split f) x (heldIn s))) ∙ ap checked full ∙ fits-as records 2 s units F (retained-holds s st) (missing (split f) F)
+        ap checked full ∙ fits-as records 2 s units F (retained-holds s st) (missing (split f) F)
+
+    pub rooms-are : checked (depthRule f ∷ roomRules (roomAt s) (hasFilter (split f) (heldIn s)) (setHeld (split f) x (heldIn s))) ≡ fitting s (length (missing (split f) F)) (weigh levelCells (missing (split f) F))
+    rooms-are = depth-first f few (roomRules (roomAt s) (hasFilter (split f) (heldIn s)) (setHeld (split f) x (heldIn s))) ∙ only-rooms
 
     -- what is then held fits, and so do its units
     module _ (q : fitting s (length (missing (split f) F)) (weigh levelCells (missing (split f) F)) ≡ Accepted) where
       pub set-within : Within (roomAt s) (held (setF (split f) x F))
       set-within =
           let i = set-text f F (st .well) x in
-          rw (i .0) (room-within f (roomAt s) (setHeld (split f) x (heldIn s)) (rw not-held at (ap accepted (rooms-are ∙ q))))
+          rw (i .0) (room-within (roomAt s) (setHeld (split f) x (heldIn s)) (rw not-held at (ap accepted (only-rooms ∙ q))))
 
       pub set-units : unitsF (setF (split f) x F) ≤ room
       set-units =

@@ -10,7 +10,8 @@ use Rattle.topic.specs.declared.Checked.the-variants.{Accepted, Refused as NotA
 use Rattle.held.specs.Retained.{lookup, lookupBytes, lookupRules, page, pageBytes, pageRules, more}
 use Rattle.region.specs.Store.{RetainedStore}
 use Rattle.edit.specs.declared.Listed.{Listed}
-use Rattle.edit.specs.Given.{listedBy, GivesKnown, Gives}
+use Rattle.edit.specs.declared.Listed.the-variants.{Given as ListingGiven, Refused as NotGiven}
+use Rattle.edit.specs.Given.{listedBy, givenBytes, enoughRoom, GivesKnown, Gives}
 use Rattle.retain.specs.declared.Paged.{Paged}
 use Rattle.retain.specs.declared.Paged.the-variants.{Given, Refused}
 use Rattle.retain.specs.Calls.{heldIn}
@@ -32,6 +33,15 @@ Looks s filter clock before after r =
 abbrev pub pagedBy : (out : List ℕ) (records : ℕ) (follows : Bool) → Checked → Paged
 pagedBy out records follows Accepted = Given (length out) records follows
 pagedBy out records follows (NotAccepted r) = Refused r
+
+-- the bytes that a page gave, and whether its buffer had enough room, as `givenBytes` and `enoughRoom` of `edit` say it of a listing
+abbrev pub pageBytesGiven : Paged → (after : List ℕ) → List ℕ
+pageBytesGiven (Given bytes records follows) after = givenBytes (ListingGiven bytes records) after
+pageBytesGiven (Refused r) after = givenBytes (NotGiven r) after
+
+abbrev pub pageEnoughRoom : Paged → Bool
+pageEnoughRoom (Given bytes records follows) = enoughRoom (ListingGiven bytes records)
+pageEnoughRoom (Refused r) = enoughRoom (NotGiven r)
 
 abbrev pub pageAnswer : (s : List ℕ) (clock offset limit : ℕ) → Checked → Paged
 pageAnswer s clock offset limit = pagedBy (pageBytes offset limit clock (heldIn s)) (length (page offset limit clock (heldIn s))) (more offset limit clock (heldIn s))

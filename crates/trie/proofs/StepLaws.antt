@@ -1,7 +1,7 @@
 -- What shows that inserting and removing did what they should. Assumes nothing.
 use mathlib.Core.Path.{_≡_, refl, sym, ap, _∙_}
 use mathlib.Core.Bool.{Bool, true, false, not, _&&_, _||_}
-use mathlib.Core.List.{List, _∷_}
+use mathlib.Core.List.{List, [], _∷_}
 use Prim.Native.Nat.{ℕ, _≤_}
 use lib.ListN.{length}
 use borrow.Author.Tests.{le-ltb}
@@ -9,6 +9,7 @@ use Rattle.refusal.specs.declared.Refusal.{Refusal}
 use Rattle.level.specs.Levels.{split}
 use Rattle.topic.specs.Rules.{Rule, filterRules}
 use Rattle.topic.specs.Answers.{checked}
+use Rattle.topic.specs.declared.Checked.{Checked}
 use Rattle.topic.specs.declared.Checked.the-variants.{Accepted, Refused as NotAccepted}
 use Rattle.held.specs.Order.{Filter, samePair, pairLt}
 use Rattle.held.specs.Ascending.{All}
@@ -22,15 +23,15 @@ use Rattle.held.proofs.Entries.{all-put, all-keep}
 use Rattle.held.proofs.HeldLaws.{held-insert, held-remove, pairs-insert, pairs-remove, pairs-settled}
 use Rattle.held.proofs.Forests.{well-pairs}
 use Rattle.held.proofs.ByTexts.{insert-text, remove-text}
-use Rattle.held.proofs.RoomLaws.{held-accepted}
+use Rattle.held.proofs.RoomLaws.{held-accepted, text-passed}
 use Rattle.region.specs.Units.{valueOf}
 use Rattle.region.specs.Store.{roomAt, forestAt, Accepts, SubscriptionStore}
 use Rattle.region.proofs.Instances.{values}
 use Rattle.change.proofs.EditLaws.{Becomes}
 use Rattle.change.proofs.StoreLaws.{holds-store}
 use Rattle.edit.specs.declared.Changed.the-variants.{Done, Refused}
-use Rattle.edit.specs.Calls.{Step}
-use Rattle.edit.proofs.StepLaws.{verdict-is, refused-step, same-step, changed-step}
+use Rattle.edit.specs.Calls.{Step, Does}
+use Rattle.edit.proofs.StepLaws.{refused-step, same-step, changed-step, text-refused}
 use Rattle.trie.specs.Calls.{heldIn, subscriptionStore}
 
 -- a held pair once more, and one that is not held taken away
@@ -57,7 +58,7 @@ module _ (s : List ℕ) (st : SubscriptionStore s) where
     rooms = depthRule f ∷ roomRules (roomAt s) (isHeld (split f, x) (heldIn s)) (insertHeld (split f, x) (heldIn s))
 
     insert-verdict : verdict (subscriptions (roomAt s) (insert f x) (heldIn s)) ≡ checked rooms
-    insert-verdict = verdict-is (subscriptions (roomAt s) (insert f x) (heldIn s)) fine
+    insert-verdict = text-passed (subscriptions (roomAt s) (insert f x) (heldIn s)) (filterRules f) rooms refl fine
 
     pub insert-refused : (r : Refusal) → checked rooms ≡ NotAccepted r → Step subscriptionStore (insert f x) s s (Refused r)
     insert-refused r e = refused-step subscriptionStore s (insert f x) st r (insert-verdict ∙ e)
@@ -84,7 +85,7 @@ module _ (s : List ℕ) (st : SubscriptionStore s) where
   -- removing
   module _ (f : List ℕ) (x : ℕ) (fine : checked (filterRules f) ≡ Accepted) where
     remove-verdict : verdict (subscriptions (roomAt s) (remove f x) (heldIn s)) ≡ Accepted
-    remove-verdict = verdict-is (subscriptions (roomAt s) (remove f x) (heldIn s)) fine
+    remove-verdict = text-passed (subscriptions (roomAt s) (remove f x) (heldIn s)) (filterRules f) [] refl fine
 
     pub remove-none : isHeld (split f, x) (heldIn s) ≡ false → Step subscriptionStore (remove f x) s s (Done 0)
     remove-none e =
@@ -100,3 +101,12 @@ module _ (s : List ℕ) (st : SubscriptionStore s) where
         let i = remove-text f (ap accepted fine) x (forestAt valueOf s) (st .well) in
         becomes-step (remove f x) 1 (removeF (split f) x (forestAt valueOf s)) t remove-verdict (rw e) (i .0) (i .1)
         (rw (i .0) (all-keep (λ (p : Pair). Accepts filterRules (p .0)) (λ (q : Pair). not (samePair (split f, x) q)) (heldIn s) (st .texts))) b
+
+-- a filter that is refused, whatever the region holds
+module _ (f : List ℕ) (x : ℕ) (s : List ℕ) {k : Checked} {r : Refusal} (q : k ≡ checked (filterRules f)) (z : k ≡ NotAccepted r) where
+  pub insert-text-refused : Does subscriptionStore (insert f x) s s (Refused r)
+  insert-text-refused =
+      text-refused subscriptionStore s (insert f x) (filterRules f) (depthRule f ∷ roomRules (roomAt s) (isHeld (split f, x) (heldIn s)) (insertHeld (split f, x) (heldIn s))) refl q z
+
+  pub remove-text-refused : Does subscriptionStore (remove f x) s s (Refused r)
+  remove-text-refused = text-refused subscriptionStore s (remove f x) (filterRules f) [] refl q z

@@ -52,12 +52,15 @@ module _ (s : List ℕ) (st : SubscriptionStore s) (f : List ℕ) where
         let hash : HashLast (split f) = filter-hash f (ap accepted fine) in
         rw z (rules-insert (roomAt s) (first f) (after f) x F (st .well) (rw z at hash))
 
-    pub rooms-are : checked (depthRule f ∷ roomRules (roomAt s) (isHeld (split f, x) (heldIn s)) (insertHeld (split f, x) (heldIn s))) ≡ fitting s (length (missing (split f) F)) (weigh levelCells (missing (split f) F))
-    rooms-are =
+    only-rooms : checked (roomRules (roomAt s) (isHeld (split f, x) (heldIn s)) (insertHeld (split f, x) (heldIn s))) ≡ fitting s (length (missing (split f) F)) (weigh levelCells (missing (split f) F))
+    only-rooms =
         let full : roomRules (roomAt s) (isHeld (split f, x) (heldIn s)) (insertHeld (split f, x) (heldIn s))
         ≡ fullRules (roomAt s) false (sizeF F + weigh (λ t. 1) (missing (split f) F)) (suc (length (held F))) (cellsF F + weigh levelCells (missing (split f) F)) =
         full-rules ∙ rw e in
-        depth-first f few (roomRules (roomAt s) (isHeld (split f, x) (heldIn s)) (insertHeld (split f, x) (heldIn s))) ∙ ap checked full ∙ fits-as values 1 s units F (store-holds s st) (missing (split f) F)
+        ap checked full ∙ fits-as values 1 s units F (store-holds s st) (missing (split f) F)
+
+    pub rooms-are : checked (depthRule f ∷ roomRules (roomAt s) (isHeld (split f, x) (heldIn s)) (insertHeld (split f, x) (heldIn s))) ≡ fitting s (length (missing (split f) F)) (weigh levelCells (missing (split f) F))
+    rooms-are = depth-first f few (roomRules (roomAt s) (isHeld (split f, x) (heldIn s)) (insertHeld (split f, x) (heldIn s))) ∙ only-rooms
 
     -- what is then held fits, and so do its units
     module _ (q : fitting s (length (missing (split f) F)) (weigh levelCells (missing (split f) F)) ≡ Accepted) where
@@ -65,7 +68,7 @@ module _ (s : List ℕ) (st : SubscriptionStore s) (f : List ℕ) where
       inserted-within =
           let i = insert-text f (ap accepted fine) x F (st .well) in
           let n : isHeld (split f, x) (heldIn s) ≡ false = held-is x ∙ e in
-          rw (i .0) (room-within f (roomAt s) (insertHeld (split f, x) (heldIn s)) (rw n at (ap accepted (rooms-are ∙ q))))
+          rw (i .0) (room-within (roomAt s) (insertHeld (split f, x) (heldIn s)) (rw n at (ap accepted (only-rooms ∙ q))))
 
       pub inserted-units : unitsF (insertF (split f) x F) ≤ room
       inserted-units =

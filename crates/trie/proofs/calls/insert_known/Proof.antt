@@ -1,6 +1,6 @@
 -- `trie::calls::insert_known` meets its contract. Assumes nothing.
-use Rattle.edit.proofs.StepLaws.{text-accepted, text-refused}
-use Rattle.trie.specs.Calls.{subscriptionStore}
+use Rattle.edit.proofs.StepLaws.{text-accepted}
+use Rattle.trie.proofs.StepLaws.{insert-text-refused}
 use borrow.Author.Needs.{needs}
 use Rattle.trie.proofs.calls.insert_known.Statement.{statement}
 use Rattle.trie.proofs.calls.insert_known.Tie as tie
@@ -15,7 +15,7 @@ enum-known-text c = search needs
 
 -- src/calls.rt:31:9
 returns : tie.Need-returns
-returns c = search (needs, text-refused subscriptionStore)
+returns c = search (needs, insert-text-refused)
 
 enum-told : tie.Need-enum-told
 enum-told c = search needs

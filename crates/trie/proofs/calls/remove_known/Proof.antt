@@ -1,6 +1,6 @@
 -- `trie::calls::remove_known` meets its contract. Assumes nothing.
-use Rattle.edit.proofs.StepLaws.{text-accepted, text-refused}
-use Rattle.trie.specs.Calls.{subscriptionStore}
+use Rattle.edit.proofs.StepLaws.{text-accepted}
+use Rattle.trie.proofs.StepLaws.{remove-text-refused}
 use borrow.Author.Needs.{needs}
 use Rattle.trie.proofs.calls.remove_known.Statement.{statement}
 use Rattle.trie.proofs.calls.remove_known.Tie as tie
@@ -15,7 +15,7 @@ enum-known-text c = search needs
 
 -- src/calls.rt:52:9
 returns : tie.Need-returns
-returns c = search (needs, text-refused subscriptionStore)
+returns c = search (needs, remove-text-refused)
 
 enum-told : tie.Need-enum-told
 enum-told c = search needs
