@@ -10,10 +10,10 @@ use Rattle.held.specs.Ascending.{All}
 use Rattle.held.specs.History.{accepted}
 use Rattle.held.specs.Retained.{Named}
 use Rattle.held.specs.Subscriptions.{Pair}
-use Rattle.held.specs.Sized.{Written, SizedPair, SmallStored, SizedName}
+use Rattle.held.specs.Sized.{Written, SmallStored, SizedName}
 use Rattle.held.specs.Forest.{Forest, leaf, fork, under, held}
 use Rattle.held.proofs.Entries.{all-append, all-map, all-with, all-both}
-use Rattle.held.proofs.Bounds.{in-range}
+use Rattle.held.proofs.Bounds.{SizedPair, in-range}
 use Rattle.held.proofs.Texts.{filter-written, name-written}
 use Rattle.region.specs.Forms.{Fits, fork-fits}
 use Rattle.region.specs.Units.{valueOf, storedOf}

@@ -32,7 +32,7 @@ use Rattle.audit.specs.Tally.{tally}
 use Rattle.content.specs.Texts.{rulesOf, TextFine}
 use Rattle.audit.specs.Fine.{Fine, Audited}
 use Rattle.audit.specs.Whole.{leftAt, usedUnits, unitsBase, none, allTaken, headerFine, storeFine}
-use Rattle.audit.specs.Decides.{StoreOf, Decides}
+use Rattle.audit.specs.Decides.{StoreOf, Decides, Decided}
 use Rattle.content.proofs.Holdings.{Holding, held-values, held-records}
 use Rattle.audit.proofs.Sound.{same-left, audit-sound, audit-passes}
 use Rattle.audit.proofs.Headers.{HeaderFine, header-yes, header-no, header-bytes, mark-back, nodes-back, pairs-back, cells-back, units-back}
@@ -212,9 +212,13 @@ module _ (s : List ℕ) (o : AreBytes s) where
       }
 
 -- the test decides it exactly: true of a store of the kind, and of nothing else
-pub decided : (k : Kind) (s : List ℕ) → AreBytes s → Decides (storeFine k s) (StoreOf k s)
-decided Subscriptions s o = record { yes = λ e. subscriptions-yes s o (kept-yes held-values s o e); no = λ r. kept-no held-values s o (subscriptions-no s o r) }
-decided Retained s o = record { yes = λ e. retained-yes s o (kept-yes held-records s o e); no = λ r. kept-no held-records s o (retained-no s o r) }
+pub fine-decides : (k : Kind) (s : List ℕ) → AreBytes s → Decides (storeFine k s) (StoreOf k s)
+fine-decides Subscriptions s o = record { yes = λ e. subscriptions-yes s o (kept-yes held-values s o e); no = λ r. kept-no held-values s o (subscriptions-no s o r) }
+fine-decides Retained s o = record { yes = λ e. retained-yes s o (kept-yes held-records s o e); no = λ r. kept-no held-records s o (retained-no s o r) }
+
+-- so bytes are a store of a kind, or they are not
+pub decided : (k : Kind) (s : List ℕ) → AreBytes s → Decided (StoreOf k s)
+decided k s o = record { answer = storeFine k s; decides = fine-decides k s o }
 
 -- and it settles the answer: two that decide the same are the same
 pub decided-settled : (P : Type 0) (a b : Bool) → Decides a P → Decides b P → a ≡ b

@@ -29,7 +29,7 @@ use Rattle.audit.specs.Tally.{tally}
 use Rattle.audit.specs.Whole.{markOf, leftAt, usedUnits, unitsBase, none, allTaken, usedFine, headerFine, storeFine}
 use Rattle.audit.specs.Decides.{StoreOf, Decides}
 use Rattle.audit.proofs.Headers.{header-yes}
-use Rattle.audit.proofs.Stores.{decided}
+use Rattle.audit.proofs.Stores.{fine-decides}
 
 module _ (s : List ℕ) (long : 64 ≤ length s) where
   number : (p : ℕ) → p + 2 ≤ 64 → read 2 p s ≡ be (part p 2 s)
@@ -153,4 +153,4 @@ module _ (k : Kind) (s : List ℕ) where
 
 -- and so it tells exactly a store
 pub decides : (k : Kind) (s : List ℕ) → AreBytes s → {r : Bool} → r ≡ storeFine k s → Decides r (StoreOf k s)
-decides k s o e = rw e (decided k s o)
+decides k s o e = rw e (fine-decides k s o)

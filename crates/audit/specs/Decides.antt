@@ -15,3 +15,8 @@ StoreOf Retained s = RetainedStore s
 pub record Decides (t : Bool) (P : Type 0) : Type 0 where
   pub yes : t ≡ true → P
   pub no : P → t ≡ true
+
+-- a question that has an answer, yes or no
+pub record Decided (P : Type 0) : Type 0 where
+  pub answer : Bool
+  pub decides : Decides answer P

@@ -18,7 +18,7 @@ use Rattle.held.proofs.RoomLaws.{Within}
 use Rattle.region.specs.Layout.{unitRoom, neededBytes, unitsF, unitBytes, marksOf, headerBytes}
 use Rattle.region.specs.Forms.{Form, Fits, fork-fits}
 use Rattle.region.specs.Store.{roomAt, usedBy}
-use Rattle.region.proofs.Sizes.{few-units}
+use Rattle.region.proofs.Sizes.{few-units, needed-units}
 use Rattle.region.proofs.Stores.{units-fit, header-room}
 use Rattle.forest.proofs.StandsLaws.{fits-fork}
 use Rattle.room.specs.declared.Load.{Load}
@@ -63,7 +63,7 @@ module _ {X : Type 0} (u : Form X) (kind : ℕ) (s : List ℕ) (F : Forest X) (h
   units-within = omega (arith, units-fit F (h .rows) (h .full), h .written .nodes-fit, h .written .pairs-fit, h .written .cells-fit)
 
   pub holds-view : View (unitRoom (roomAt s)) s (unitsF F) (marksOf 1 F) (unitBytes (u .write) F)
-  holds-view = record { fits = units-within; long = h .written .long; marks-are = h .written .marks; units-are = h .written .units }
+  holds-view = record { fits = units-within; long = omega (arith, h .written .long, needed-units (roomAt s)); marks-are = h .written .marks; units-are = h .written .units }
 
   pub room-small : unitRoom (roomAt s) ≤ 20480
   room-small = few-units (roomAt s) (h .written .range)
@@ -89,7 +89,10 @@ module _ {X : Type 0} (u : Form X) (kind : ℕ) (s : List ℕ) (w : Way X) (G H 
     (rows : Rows (plug w H)) (full : Full (plug w H)) (within : Within (roomAt s) (held (plug w H))) (small : Fits (u .Small) H)
     (a b : Load) (c : Changes G H a b) (t : List ℕ)
     (v : View (unitRoom (roomAt s)) t (unitsF (plug w H)) (marksOf 1 (plug w H)) (unitBytes (u .write) (plug w H)))
-    (f : Framed 64 (neededBytes (roomAt s)) s t) where
+    (framed : Framed 64 (64 + 17 * unitRoom (roomAt s)) s t) where
+  f : Framed 64 (neededBytes (roomAt s)) s t
+  f = subst (λ (n : ℕ). Framed 64 n s t) (sym (needed-units (roomAt s))) framed
+
   used-is : usedMoved a b (usedBy (plug w G)) ≡ usedBy (plug w H)
   used-is =
       let n : moved (a .nodes) (b .nodes) (nodeCount (held (plug w G))) ≡ nodeCount (held (plug w H)) =

@@ -55,22 +55,22 @@ module _ (s : List ℕ) (all : AreBytes s) {after after' : List ℕ} where
   -- `cjumbradi_insert`, `cjumbradi_remove`
   pub subscription-change-settled : (call : SubscriptionCall) {t u : Told} → Tells ofChanged (Calls subscriptionStore call s after) t → Tells ofChanged (Calls subscriptionStore call s after') u
       → (t ≡ u) × Same subscriptionStore after after'
-  subscription-change-settled call = tells ofChanged (λ r q x y. calls-settled subscriptionStore call s _ (decided Subscriptions s all) x y)
+  subscription-change-settled call = tells ofChanged (λ r q x y. calls-settled subscriptionStore call s (decided Subscriptions s all) x y)
 
   -- `cjumbradi_set`, `cjumbradi_sweep`
   pub name-change-settled : (call : NameCall) {t u : Told} → Tells ofChanged (Calls retainedStore call s after) t → Tells ofChanged (Calls retainedStore call s after') u → (t ≡ u) × Same retainedStore after after'
-  name-change-settled call = tells ofChanged (λ r q x y. calls-settled retainedStore call s _ (decided Retained s all) x y)
+  name-change-settled call = tells ofChanged (λ r q x y. calls-settled retainedStore call s (decided Retained s all) x y)
 
   pub listing-settled : (name before : List ℕ) {t u : Told × ℕ} → Tells ofListed (Lists s name before after) t → Tells ofListed (Lists s name before after') u → (t ≡ u) × (after ≡ after')
-  listing-settled name before = tells ofListed (λ r q x y. gives-settled _ (decided Subscriptions s all) x y)
+  listing-settled name before = tells ofListed (λ r q x y. gives-settled (decided Subscriptions s all) x y)
 
   pub lookup-settled : (filter : List ℕ) (clock : ℕ) (before : List ℕ) {t u : Told × ℕ} → Tells ofListed (Looks s filter clock before after) t → Tells ofListed (Looks s filter clock before after') u
       → (t ≡ u) × (after ≡ after')
-  lookup-settled filter clock before = tells ofListed (λ r q x y. gives-settled _ (decided Retained s all) x y)
+  lookup-settled filter clock before = tells ofListed (λ r q x y. gives-settled (decided Retained s all) x y)
 
   pub page-settled : (clock offset limit : ℕ) (before : List ℕ) {t u : Told × ℕ × ℕ} → Tells ofPaged (Pages s clock offset limit before after) t → Tells ofPaged (Pages s clock offset limit before after') u
       → (t ≡ u) × (after ≡ after')
-  page-settled clock offset limit before = tells ofPaged (λ r q x y. gives-settled _ (decided Retained s all) x y)
+  page-settled clock offset limit before = tells ofPaged (λ r q x y. gives-settled (decided Retained s all) x y)
 
 module _ (s : List ℕ) (all : AreBytes s) where
   pub is-match-told : (name : List ℕ) → Settles (Tells ofMatched (Asks s name))
@@ -78,7 +78,7 @@ module _ (s : List ℕ) (all : AreBytes s) where
 
   -- `cjumbradi_nodes_size`, `cjumbradi_values_size`, by what they count
   pub size-settled : (count : ℕ) → Settles (Tells ofOutcome (Counts (SubscriptionStore s) count))
-  size-settled count = tells-alone ofOutcome (λ r q x y. counts-settled _ (decided Subscriptions s all) x y)
+  size-settled count = tells-alone ofOutcome (λ r q x y. counts-settled (decided Subscriptions s all) x y)
 
   pub count-settled : (count : ℕ) → Settles (Tells ofOutcome (Counts (RetainedStore s) count))
-  count-settled count = tells-alone ofOutcome (λ r q x y. counts-settled _ (decided Retained s all) x y)
+  count-settled count = tells-alone ofOutcome (λ r q x y. counts-settled (decided Retained s all) x y)

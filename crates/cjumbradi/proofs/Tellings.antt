@@ -11,7 +11,7 @@ use Rattle.refusal.specs.declared.Refusal.{Refusal}
 use Rattle.refusal.specs.declared.Refusal.the-variants.{Empty, TooLong, NotUtf8, HasNul, HasWildcard, BadLevel, HashNotLast, NoInner, BadGroup, BadSize, NotAStore, TooDeep, NodesFull, PairsFull, TextFull, ShortRoom}
 use Rattle.level.specs.Places.{first, endOf}
 use Rattle.topic.specs.Answers.{partAt, placeAt}
-use Rattle.topic.proofs.LevelLaws.{part-in-place}
+use Rattle.topic.proofs.LevelLaws.{part-first}
 
 -- a number and a value that are those of what is to be told
 pub told-is : {n v : ℕ} {t : Told} → v ≡ t .place → n ≡ t .number → (n at v) ≡ t
@@ -55,4 +55,4 @@ number-some (ShortRoom n) = refl
 pub part-length : (s : List ℕ) (k : ℕ) {from end : ℕ} → from ≡ placeAt s k → end ≡ endOf s from → end - from ≡ length (partAt s k)
 part-length s k {from} {end} e q =
     let z : end - from ≡ length (first (drop from s)) = omega arith in
-    z ∙ ap (λ (p : ℕ). length (first (drop p s))) e ∙ ap length (part-in-place s k)
+    z ∙ ap (λ (p : ℕ). length (first (drop p s))) e ∙ ap length (part-first s k)

@@ -8,9 +8,9 @@ use lib.Dec.{ltb}
 use lib.ListN.{length}
 use borrow.Author.Tests.{le-ltb, ltb-false, not-true, not-false}
 use Rattle.utf8.specs.Utf8.{isUtf8}
-use Rattle.level.specs.Levels.{split, join, width, has}
+use Rattle.level.specs.Levels.{split, join, width, has, Clean}
 use Rattle.level.specs.Kinds.{blank, wild, bad}
-use Rattle.level.proofs.Join.{Clean, join-split, split-join, clean-split}
+use Rattle.level.proofs.Join.{join-split, split-join, clean-split}
 use Rattle.topic.specs.Rules.{Rule, _gives_, index, filterRules, nameRules}
 use Rattle.topic.specs.Answers.{checked}
 use Rattle.topic.specs.declared.Checked.the-variants.{Accepted}

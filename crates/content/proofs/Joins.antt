@@ -9,9 +9,8 @@ use lib.ListN.{length, length-append}
 use borrow.Author.Tests.{lt-ltb, le-ltb, ltb-false, not-true}
 use Rattle.utf8.specs.Utf8.{isUtf8}
 use Rattle.utf8.proofs.Joined.{utf8-slash}
-use Rattle.level.specs.Levels.{join, width, has}
+use Rattle.level.specs.Levels.{join, width, has, Clean, no-more, clean}
 use Rattle.level.specs.Kinds.{isOnly, wild}
-use Rattle.level.proofs.Join.{Clean, no-more, clean}
 use Rattle.topic.specs.Rules.{index}
 use Rattle.held.specs.Order.{Level, Filter}
 use Rattle.held.specs.Edit.{HashLast}

@@ -18,8 +18,9 @@ use Rattle.topic.specs.declared.Checked.the-variants.{Accepted, Refused as NotA
 use Rattle.topic.proofs.RuleLaws.{orElse, checked-append}
 use Rattle.held.specs.Bytes.{lengthRule}
 use Rattle.audit.specs.Decides.{Decides}
+use Rattle.edit.specs.declared.Listed.{Listed}
 use Rattle.edit.specs.declared.Listed.the-variants.{Given}
-use Rattle.edit.specs.Given.{listedBy, writtenBy, GivesKnown, Gives}
+use Rattle.edit.specs.Given.{listedBy, writtenBy, givenBytes, enoughRoom, GivesKnown, Gives}
 use Rattle.edit.proofs.CallLaws.{none, one}
 
 module _ {A : Type 0} (Store : Type 0) (rules : List Rule) (answer : Checked → A) (out : List ℕ) where
@@ -138,3 +139,9 @@ module _ {A Store Store' : Type 0} (texts : List Rule) (answer : Checked → A) 
           apart (room (g .told st) (told b Accepted z true k) false short) (room (h .told st') (told b' Accepted z false n) true fits) (λ x. true≢false (sym x))
       go Accepted z false k true n =
           apart (room (g .told st) (told b Accepted z false k) true fits) (room (h .told st') (told b' Accepted z true n) false short) true≢false
+
+-- the same of a call that answers as a listing does
+pub same-listed : {Store Store' : Type 0} (texts : List Rule) (out : List ℕ) (count : ℕ) → Store → Store' → {b b' a a' : List ℕ} {r q : Listed}
+    → GivesKnown Store (texts ++ lengthRule (length b) out ∷ []) (listedBy out count) out b a r → GivesKnown Store' (texts ++ lengthRule (length b') out ∷ []) (listedBy out count) out b' a' q
+    → enoughRoom r ≡ enoughRoom q → (r ≡ q) × (givenBytes r a ≡ givenBytes q a')
+same-listed texts out count st st' = same-given texts (listedBy out count) out st st' enoughRoom givenBytes refl refl (λ _. refl) (λ _ _. refl)

@@ -7,7 +7,7 @@ use mathlib.Core.List.{List}
 use Rattle.topic.specs.Rules.{Rule}
 use Rattle.topic.specs.declared.Checked.{Checked}
 use Rattle.held.specs.History.{Outcome, answered}
-use Rattle.audit.specs.Decides.{Decides}
+use Rattle.audit.specs.Decides.{Decides, Decided}
 use Rattle.edit.specs.declared.Changed.{Changed}
 use Rattle.edit.specs.declared.Changed.the-variants.{Done, Refused}
 use Rattle.edit.specs.Calls.{StoreKind, toldAs, Step, Calls, Does}
@@ -17,9 +17,12 @@ use Rattle.edit.specs.Same.{Same}
 use Rattle.edit.proofs.RunLaws.{same-refusal}
 
 -- a region is a store, or it is none
-pub store-or-none : {P Store : Type 0} (b : Bool) → Decides b Store → (Store → P) → ((Store → ⊥) → P) → P
-store-or-none true d on-store on-other = on-store (d .yes refl)
-store-or-none false d on-store on-other = on-other (λ st. true≢false (sym (d .no st)))
+pub store-or-none : {P Store : Type 0} → Decided Store → (Store → P) → ((Store → ⊥) → P) → P
+store-or-none {P} {Store} d on-store on-other = go (d .answer) (d .decides)
+  where
+    go : (b : Bool) → Decides b Store → P
+    go true e = on-store (e .yes refl)
+    go false e = on-other (λ st. true≢false (sym (e .no st)))
 
 pub same-answer : {n m : ℕ} → answered n ≡ answered m → n ≡ m
 same-answer e = cc
@@ -40,9 +43,9 @@ module _ {C H : Type 0} (k : StoreKind C H) (call : C) (s : List ℕ) {t u : Lis
   )
 
   -- a call on any region
-  pub calls-settled : (b : Bool) → Decides b (k .Store s) → Calls k call s t r → Calls k call s u q → (r ≡ q) × Same k t u
-  calls-settled b d x y =
-      store-or-none b d (λ st. step-settled (x .on-store st) (y .on-store st))
+  pub calls-settled : Decided (k .Store s) → Calls k call s t r → Calls k call s u q → (r ≡ q) × Same k t u
+  calls-settled d x y =
+      store-or-none d (λ st. step-settled (x .on-store st) (y .on-store st))
       (λ no. other (x .on-other no) (y .on-other no))
     where
       other : {z : Changed} → (r ≡ z) × (t ≡ s) → (q ≡ z) × (u ≡ s) → (r ≡ q) × Same k t u
@@ -57,11 +60,11 @@ module _ {A Store : Type 0} {rules : List Rule} {answer : Checked → A} {out be
   pub given-settled : Store → GivesKnown Store rules answer out before after r → GivesKnown Store rules answer out before after' q → (r ≡ q) × (after ≡ after')
   given-settled st x y = (x .told st ∙ sym (y .told st), x .given st ∙ sym (y .given st))
 
-  pub gives-settled : (b : Bool) → Decides b Store → Gives Store rules answer out before after r → Gives Store rules answer out before after' q → (r ≡ q) × (after ≡ after')
-  gives-settled b d x y =
-      store-or-none b d (λ st. given-settled st (x .on-store) (y .on-store))
+  pub gives-settled : Decided Store → Gives Store rules answer out before after r → Gives Store rules answer out before after' q → (r ≡ q) × (after ≡ after')
+  gives-settled d x y =
+      store-or-none d (λ st. given-settled st (x .on-store) (y .on-store))
       (λ no. (x .on-other no .0 ∙ sym (y .on-other no .0), x .on-other no .1 ∙ sym (y .on-other no .1)))
 
 -- a call that counts
-pub counts-settled : {Store : Type 0} (b : Bool) → Decides b Store → {count : ℕ} {t u : Outcome} → Counts Store count t → Counts Store count u → t ≡ u
-counts-settled b d x y = store-or-none b d (λ st. x .on-store st ∙ sym (y .on-store st)) (λ no. x .on-other no ∙ sym (y .on-other no))
+pub counts-settled : {Store : Type 0} → Decided Store → {count : ℕ} {t u : Outcome} → Counts Store count t → Counts Store count u → t ≡ u
+counts-settled d x y = store-or-none d (λ st. x .on-store st ∙ sym (y .on-store st)) (λ no. x .on-other no ∙ sym (y .on-other no))

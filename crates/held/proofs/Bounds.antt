@@ -29,7 +29,7 @@ use Rattle.held.proofs.HeldLaws.{pairs-insert, pairs-remove}
 use Rattle.held.proofs.RoomLaws.{room-within}
 use Rattle.held.proofs.Histories.{run-keeps, all-calls}
 use Rattle.held.proofs.Lengths.{length-insert}
-use Rattle.held.specs.Sized.{SizedPair, SizedRecord, SmallStored, SizedName}
+use Rattle.held.specs.Sized.{Written, SizedRecord, SmallStored, SizedName}
 
 pub length-keep : {E : Type 0} (q : E → Bool) (l : List E) → length (keep q l) ≤ length l
 length-keep q [] = omega arith
@@ -38,6 +38,11 @@ length-keep q (e ∷ l) = go (q e) (length-keep q l)
     go : (t : Bool) → length (keep q l) ≤ length l → length (cond t (e ∷ keep q l) (keep q l)) ≤ suc (length l)
     go true h = omega arith
     go false h = omega arith
+
+-- a pair whose text and value fit their bytes
+pub record SizedPair (p : Pair) : Type 0 where
+  pub text : Written (p .0)
+  pub value : p .1 < 4294967296
 
 -- the records of a listing fit
 module _ (h : List Pair) (sized : All SizedPair h) (few : length h ≤ 8192) where

@@ -15,7 +15,7 @@ use Rattle.topic.specs.declared.Checked.the-variants.{Accepted, Refused}
 use Rattle.held.specs.Order.{Filter, filterLt}
 use Rattle.held.specs.Ascending.{sort}
 use Rattle.held.specs.Room.{allLeads, nodesOf, nodeCount, cellCount, Room, inRange, roomRules, depthRule}
-use Rattle.held.specs.History.{verdict, Outcome, answered, refused, outcome, result, Kind, run}
+use Rattle.held.specs.History.{verdict, Outcome, answered, refused, outcome, result, Kind, run, hasRoom}
 use Rattle.held.specs.Subscriptions.{Pair, isHeld, insertHeld, removeHeld, insert, remove, subscriptions, valuesOf, listing, listingRecord, listingBytes, listingRules}
 use Rattle.held.specs.Retained.{Stored, Named, hasFilter, setHeld, eraseHeld, sweepHeld, set, sweep, retained, lookup, nameRecord, lookupBytes, page, pageBytes, more, lookupRules, pageRules}
 
@@ -74,6 +74,11 @@ full-store = refl
 depths : map (λ n. checked (depthRule (replicate n 47) ∷ [])) (127 ∷ 128 ∷ []) ≡ Accepted ∷ Refused TooDeep ∷ []
 unfolding depthRule
 depths = refl
+
+-- an insert of 129 levels is refused, and not for room: what a run with it leaves held is settled all the same
+deep-has-room : hasRoom subscriptions (room 2 2 2) (insert (replicate 128 47) 1 ∷ []) [] ≡ true
+unfolding verdict depthRule
+deep-has-room = refl
 
 -- "Moment 1000: at 999 listed with 1 left, at 1000 not listed, count still 1."; "0 for no moment"
 timed : List Named

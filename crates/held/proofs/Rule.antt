@@ -1,18 +1,25 @@
 -- The listing's order is document 01's: on the filters that match one name, the two agree. Assumes nothing.
-use mathlib.Core.Path.{_≡_, refl, sym, _∙_}
+use mathlib.Core.Path.{_≡_, refl, sym, ap, _∙_}
 use mathlib.Core.Bool.{Bool, true, false, not, _&&_, true≢false}
 use mathlib.Core.List.{List, [], _∷_, map}
 use mathlib.Core.Logic.{_⊎_, inl, inr, ⊎-elim}
 use lib.Dec.{ltb}
+use Prim.Native.Nat.{ℕ}
 use Rattle.level.specs.Kinds.{isOnly, same}
+use Rattle.level.specs.Levels.{split}
+use Rattle.topic.specs.Rules.{filterRules}
+use Rattle.topic.specs.Answers.{checked}
+use Rattle.topic.specs.declared.Checked.the-variants.{Accepted}
 use Rattle.topic.specs.Match.{levelTakes, takes, leadWild, leadDollar, match47}
 use Rattle.held.specs.Order.{Level, Filter, rank, rankLt, listingLt, ruleLt}
 use Rattle.held.specs.Ascending.{All, keep, Below, Asc}
 use Rattle.held.specs.Subscriptions.{valuesOf, listing}
 use Rattle.held.specs.Edit.{HashLast}
+use Rattle.held.specs.History.{accepted}
 use Rattle.held.proofs.Orders.{and-left, and-right, asym, eq-same, byte-order, level-order, rank-order}
 use Rattle.held.proofs.Entries.{all-keep, all-sort, all-passed, all-map, all-both}
 use Rattle.held.proofs.Listing.{listing-asc}
+use Rattle.held.proofs.Texts.{filter-hash}
 use Rattle.held.proofs.Walks.{only-is}
 
 -- ranks that differ, or one level
@@ -60,12 +67,18 @@ rule-step f g fs gs n a b ih u v false e =
     ⊎-elim (λ z. absurd (true≢false (sym (eq-same level-order f g z) ∙ e))) (differ f g fs gs e)
     (apart n f g fs gs u v (isOnly 35 f) (isOnly 43 f) (isOnly 35 g) (isOnly 43 g) refl refl refl refl)
 
-pub rule-is : (f g n : Filter) → HashLast f → HashLast g → takes f n ≡ true → takes g n ≡ true → listingLt f g ≡ ruleLt f g
-rule-is [] [] n a b u v = refl
-rule-is (f ∷ fs) [] n a b u v = refl
-rule-is [] (g ∷ gs) [] a b u v = sym v
-rule-is [] (g ∷ gs) (m ∷ ms) a b u v = absurd (true≢false (sym u))
-rule-is (f ∷ fs) (g ∷ gs) n a b u v = rule-step f g fs gs n a b (λ m p q. rule-is fs gs m (a .1) (b .1) p q) u v (same f g) refl
+rule-levels : (f g n : Filter) → HashLast f → HashLast g → takes f n ≡ true → takes g n ≡ true → listingLt f g ≡ ruleLt f g
+rule-levels [] [] n a b u v = refl
+rule-levels (f ∷ fs) [] n a b u v = refl
+rule-levels [] (g ∷ gs) [] a b u v = sym v
+rule-levels [] (g ∷ gs) (m ∷ ms) a b u v = absurd (true≢false (sym u))
+rule-levels (f ∷ fs) (g ∷ gs) n a b u v = rule-step f g fs gs n a b (λ m p q. rule-levels fs gs m (a .1) (b .1) p q) u v (same f g) refl
+
+pub rule-is : (f g : List ℕ) (n : Filter) → checked (filterRules f) ≡ Accepted → checked (filterRules g) ≡ Accepted → match47 (split f) n ≡ true → match47 (split g) n ≡ true
+    → listingLt (split f) (split g) ≡ ruleLt (split f) (split g)
+rule-is f g n a b u v =
+    rule-levels (split f) (split g) n (filter-hash f (ap accepted a)) (filter-hash g (ap accepted b)) (and-right (not (leadWild (split f) && leadDollar n)) (takes (split f) n) u)
+    (and-right (not (leadWild (split g) && leadDollar n)) (takes (split g) n) v)
 
 -- so a listing ascends in 01's own words
 module _ {X : Type 0} (n : Filter) where
@@ -74,7 +87,7 @@ module _ {X : Type 0} (n : Filter) where
 
   below-rule : (k : Filter) → HashLast k → takes k n ≡ true → (l : List (Filter × List X)) → All Matching l → Below listingLt (λ r. r .0) k l → Below ruleLt (λ r. r .0) k l
   below-rule k a t [] m b = tt
-  below-rule k a t (r ∷ l) m b = (sym (rule-is k (r .0) n a (m .0 .0) t (m .0 .1)) ∙ b .0, below-rule k a t l (m .1) (b .1))
+  below-rule k a t (r ∷ l) m b = (sym (rule-levels k (r .0) n a (m .0 .0) t (m .0 .1)) ∙ b .0, below-rule k a t l (m .1) (b .1))
 
   asc-rule : (l : List (Filter × List X)) → All Matching l → Asc listingLt (λ r. r .0) l → Asc ruleLt (λ r. r .0) l
   asc-rule [] m b = tt

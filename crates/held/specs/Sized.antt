@@ -8,18 +8,12 @@ use lib.ListN.{length}
 use Rattle.level.specs.Levels.{split, join}
 use Rattle.held.specs.Order.{Filter}
 use Rattle.held.specs.Ascending.{All}
-use Rattle.held.specs.Subscriptions.{Pair}
 use Rattle.held.specs.Retained.{Stored, Named}
 
 -- levels that are a text's, of at most 65,535 bytes
 pub record Written (f : Filter) : Type 0 where
   pub levels : split (join f) ≡ f
   pub short : length (join f) ≤ 65535
-
--- a pair whose text and value fit their bytes
-pub record SizedPair (p : Pair) : Type 0 where
-  pub text : Written (p .0)
-  pub value : p .1 < 4294967296
 
 -- a record whose text, number of values and values fit their bytes
 pub record SizedRecord (r : Filter × List ℕ) : Type 0 where

@@ -5,7 +5,7 @@ use mathlib.Core.List.{List, [], _∷_, _++_}
 use Prim.Native.Nat.{ℕ}
 use lib.Dec.{eqb}
 use borrow.Author.Tests.{eqb-true}
-use Rattle.level.specs.Levels.{push, split, join, has}
+use Rattle.level.specs.Levels.{push, split, join, has, Clean, no-more, clean}
 use Rattle.level.specs.Places.{first}
 use Rattle.level.proofs.Split.{split-cons, after}
 
@@ -21,11 +21,6 @@ join-split [] = refl
 join-split (b ∷ s) =
     rw (split-cons s) (join-push (eqb b 47) b (first s) (after s) (eqb-true b 47)
     ∙ ap (λ (l : List ℕ). b ∷ l) (rw (← split-cons s) (join-split s)))
-
--- no level has a '/'
-pub data Clean : List (List ℕ) → Type 0 where
-  no-more : Clean []
-  clean : {l : List ℕ} {ls : List (List ℕ)} → has 47 l ≡ false → Clean ls → Clean (l ∷ ls)
 
 -- neither of two
 pub head-false : (a b : Bool) → (a || b) ≡ false → a ≡ false

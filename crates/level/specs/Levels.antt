@@ -1,5 +1,6 @@
 -- TO BELIEVE. The levels of a text (document 01, 'Text rules'; MQTT 4.7.1.1). Assumes nothing.
 -- A text and a level are lists of bytes; '/' is 47.
+use mathlib.Core.Path.{_≡_}
 use Prim.Native.Nat.{ℕ, suc, _+_}
 use mathlib.Core.Bool.{Bool, true, false, _||_}
 use mathlib.Core.List.{List, [], _∷_, _++_}
@@ -36,3 +37,8 @@ startOf s k = width (take k (split s))
 abbrev pub has : ℕ → List ℕ → Bool
 has b [] = false
 has b (x ∷ s) = eqb x b || has b s
+
+-- levels of which none has a '/'
+pub data Clean : List (List ℕ) → Type 0 where
+  no-more : Clean []
+  clean : {l : List ℕ} {ls : List (List ℕ)} → has 47 l ≡ false → Clean ls → Clean (l ∷ ls)

@@ -2,7 +2,7 @@
 use mathlib.Core.Path.{_≡_, refl, sym, ap, _∙_}
 use mathlib.Core.Bool.{Bool, true, false, not, true≢false}
 use mathlib.Core.List.{List, [], _∷_}
-use Prim.Native.Nat.{ℕ, _+_, _/_, _%_, _≤_, _<_}
+use Prim.Native.Nat.{ℕ, _+_, _*_, _/_, _%_, _≤_, _<_}
 use lib.ListN.{length}
 use native.Mathlib.Omega.{arith}
 use lib.Dec.{leb}
@@ -17,7 +17,7 @@ use Rattle.held.specs.Room.{Room, upTo, inRange}
 use Rattle.held.proofs.Bounds.{in-range}
 use Rattle.refusal.specs.declared.Refusal.the-variants.{BadSize}
 use Rattle.region.specs.declared.Size.the-variants.{Bytes, Refused}
-use Rattle.region.specs.Layout.{neededBytes, Used, headerBytes}
+use Rattle.region.specs.Layout.{unitRoom, neededBytes, Used, headerBytes}
 use Rattle.region.specs.Opening.{neededOf, openRules, nothing}
 
 pub up-some : (most n : ℕ) → 0 < n → leb n most ≡ upTo most n
@@ -41,6 +41,10 @@ module _ (r : Room) {a : Bool} (ea : a ≡ upTo 4096 (r .nodes)) where
 -- what fits in range
 pub few-units : (r : Room) → inRange r ≡ true → r .nodes + r .pairs + r .cells ≤ 20480
 few-units r h = let i = in-range r h in omega (arith, i .nodes .1, i .pairs .1, i .cells .1)
+
+-- the bytes needed, by the units
+pub needed-units : (r : Room) → neededBytes r ≡ 64 + 17 * unitRoom r
+needed-units r = omega arith
 
 -- the answers of `needed`
 module _ (r : Room) {t : Bool} (et : t ≡ inRange r) where

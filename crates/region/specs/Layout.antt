@@ -23,12 +23,13 @@ use Rattle.held.specs.Room.{Room}
 use Rattle.held.specs.Bytes.{each}
 use Rattle.held.specs.Forest.{Forest, leaf, fork}
 
--- the units that a region has room for, and the bytes that it needs
+-- the units that a region has room for: a node, a pair and a cell take at most one each
 abbrev pub unitRoom : Room → ℕ
 unitRoom r = r .nodes + r .pairs + r .cells
 
+-- the bytes that it needs: the header's, then a mark and a unit for each node, each pair and each cell
 abbrev pub neededBytes : Room → ℕ
-neededBytes r = 64 + 17 * unitRoom r
+neededBytes r = 64 + 17 * r .nodes + 17 * r .pairs + 17 * r .cells
 
 -- the units of a head of 8 bytes and a level of n; of a level; of a row; of a forest
 abbrev pub unitsFor : ℕ → ℕ

@@ -85,7 +85,7 @@ fn bytes_for(c: Capacities) -> u64
     let nodes = c.nodes;
     let pairs = c.pairs;
     let cells = c.cells;
-    64 + 17 * (nodes.0 + pairs.0 + cells.0)
+    64 + 17 * nodes.0 + 17 * pairs.0 + 17 * cells.0
 }
 
 pub fn needed(_kind: Kind, c: Capacities) -> Size

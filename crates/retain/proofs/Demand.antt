@@ -14,22 +14,23 @@ use Rattle.topic.specs.Answers.{checked}
 use Rattle.topic.specs.declared.Checked.{Checked}
 use Rattle.topic.specs.declared.Checked.the-variants.{Accepted, Refused as NotAccepted}
 use Rattle.held.specs.Room.{Room, inRange}
-use Rattle.held.specs.Retained.{Call, SameCalls, lookup, lookupBytes, page, pageBytes, pageRules, more}
+use Rattle.held.specs.Retained.{AscNames, Call, SameCalls, lookup, lookupBytes, page, pageBytes, pageRules, more}
 use Rattle.held.specs.Found.{Found, FoundPage}
 use Rattle.held.specs.Forest.{held}
 use Rattle.held.proofs.Histories.{same-names}
+use Rattle.held.proofs.Names.{well-names}
 use Rattle.held.proofs.FoundLaws.{history-found, history-page}
 use Rattle.region.specs.Layout.{neededBytes, headerBytes}
 use Rattle.region.specs.Opening.{nothing}
 use Rattle.region.specs.Units.{storedOf}
-use Rattle.region.specs.Store.{roomAt}
+use Rattle.region.specs.Store.{roomAt, forestAt, RetainedStore}
 use Rattle.region.proofs.Stores.{opened-forest, opened-retained}
 use Rattle.edit.specs.Runs.{Runs, Empty}
-use Rattle.edit.specs.Given.{listedBy, givenBytes, enoughRoom}
+use Rattle.edit.specs.Given.{givenBytes, enoughRoom}
 use Rattle.edit.specs.declared.Listed.{Listed}
 use Rattle.edit.specs.declared.Listed.the-variants.{Given}
 use Rattle.edit.proofs.RunLaws.{from-empty}
-use Rattle.edit.proofs.GiveLaws.{written-front, given-front, same-given}
+use Rattle.edit.proofs.GiveLaws.{written-front, given-front, same-given, same-listed}
 use Rattle.retain.specs.declared.Paged.{Paged}
 use Rattle.retain.specs.declared.Paged.the-variants.{Given as PageGiven}
 use Rattle.retain.specs.Calls.{heldIn, retainedStore}
@@ -49,6 +50,10 @@ page-only out count follows Accepted e = (refl, first e, second e, third e)
     third : {a b n k : ℕ} {x y : Bool} → PageGiven a n x ≡ PageGiven b k y → x ≡ y
     third e = cc
 page-only out count follows (NotAccepted r) e = (cc, cc, cc, cc)
+
+-- "one record per name": what a store holds strictly ascends by its names
+pub held-names : {s : List ℕ} → RetainedStore s → AscNames (heldIn s)
+held-names {s} st = well-names (forestAt storedOf s) (st .well)
 
 -- which names a lookup and a page have after a run: exactly those that the calls left held, that have not expired, and that the
 -- filter takes
@@ -81,8 +86,8 @@ module _ {cs ds : List Call} {s t u v : List ℕ} (a : Empty retainedStore s) (b
   pub runs-look : (filter : List ℕ) (clock : ℕ) {before before' after after' : List ℕ} {r q : Listed} → LooksKnown t filter clock before after r → LooksKnown v filter clock before' after' q
       → enoughRoom r ≡ enoughRoom q → (r ≡ q) × (givenBytes r after ≡ givenBytes q after')
   runs-look filter clock k l e =
-      same-given (filterRules filter) (listedBy (lookupBytes (split filter) clock (heldIn v)) (length (lookup (split filter) clock (heldIn v)))) (lookupBytes (split filter) clock (heldIn v))
-      (from-empty retainedStore a x .2) (from-empty retainedStore b y .2) enoughRoom givenBytes refl refl (λ _. refl) (λ _ _. refl) (rw runs-hold at k) l e
+      same-listed (filterRules filter) (lookupBytes (split filter) clock (heldIn v)) (length (lookup (split filter) clock (heldIn v))) (from-empty retainedStore a x .2) (from-empty retainedStore b y .2)
+      (rw runs-hold at k) l e
 
   pub runs-page : (clock offset limit : ℕ) {before before' after after' : List ℕ} {r q : Paged} → PagesKnown t clock offset limit before after r → PagesKnown v clock offset limit before' after' q
       → pageEnoughRoom r ≡ pageEnoughRoom q → (r ≡ q) × (pageBytesGiven r after ≡ pageBytesGiven q after')

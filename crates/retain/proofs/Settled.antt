@@ -26,18 +26,18 @@ use Rattle.retain.specs.Lookups.{Looks, Pages}
 module _ (s : List ℕ) (all : AreBytes s) where
   -- `set` and `remove_expired`
   pub changes-settled : (call : Call) {t u : List ℕ} {r q : Changed} → Calls retainedStore call s t r → Calls retainedStore call s u q → (r ≡ q) × Same retainedStore t u
-  changes-settled call x y = calls-settled retainedStore call s _ (decided Retained s all) x y
+  changes-settled call x y = calls-settled retainedStore call s (decided Retained s all) x y
 
   pub get-settled : (filter : List ℕ) (clock : ℕ) (before : List ℕ) {after after' : List ℕ} {r q : Listed} → Looks s filter clock before after r → Looks s filter clock before after' q
       → (r ≡ q) × (after ≡ after')
-  get-settled filter clock before x y = gives-settled _ (decided Retained s all) x y
+  get-settled filter clock before x y = gives-settled (decided Retained s all) x y
 
   pub page-settled : (clock offset limit : ℕ) (before : List ℕ) {after after' : List ℕ} {r q : Paged} → Pages s clock offset limit before after r → Pages s clock offset limit before after' q
       → (r ≡ q) × (after ≡ after')
-  page-settled clock offset limit before x y = gives-settled _ (decided Retained s all) x y
+  page-settled clock offset limit before x y = gives-settled (decided Retained s all) x y
 
   pub count-settled : Settles (λ (r : Names). Counts (RetainedStore s) (length (heldIn s)) (namesTold r))
-  count-settled r q x y = once r q (counts-settled _ (decided Retained s all) x y)
+  count-settled r q x y = once r q (counts-settled (decided Retained s all) x y)
     where
       once : (r q : Names) → namesTold r ≡ namesTold q → r ≡ q
       once (Held n) (Held m) e = ap {B = Names} (λ (x : ℕ). Held (record { 0 = x })) (same-answer e)

@@ -5,7 +5,7 @@ use mathlib.Core.List.{List, []}
 use Prim.Native.Nat.{ℕ, _≤_, _<_}
 use native.Mathlib.Omega.{arith}
 use lib.Dec.{ltb}
-use lib.ListN.{length, drop, drop-of-length-le, getD}
+use lib.ListN.{length, take, drop, drop-of-length-le, getD}
 use borrow.Author.Tests.{lt-ltb, le-ltb, ltb-true, ltb-false}
 use Rattle.refusal.specs.declared.Refusal.{Refusal}
 use Rattle.refusal.specs.declared.Refusal.the-variants.{NotUtf8}
@@ -15,7 +15,7 @@ use Rattle.level.specs.declared.Kind.the-variants.{None}
 use Rattle.level.specs.Levels.{split, startOf}
 use Rattle.level.specs.Kinds.{kindOf}
 use Rattle.level.specs.Places.{first}
-use Rattle.level.proofs.Split.{levels-in, getD-from, start-within}
+use Rattle.level.proofs.Split.{take-first, levels-in, getD-from, start-within}
 use Rattle.topic.specs.declared.Checked.{Checked}
 use Rattle.topic.specs.declared.Checked.the-variants.{Accepted, Refused}
 use Rattle.topic.specs.declared.Parsed.{Parsed}
@@ -101,9 +101,15 @@ in-place s k false e =
     let h : length (split s) ≤ k = ltb-false k (length (split s)) e in
     rw (drop-length s, getD-from (split s) k [], drop-of-length-le (split s) {i = k} h)
 
-pub part-in-place : (s : List ℕ) (k : ℕ) → first (drop (placeAt s k) s) ≡ partAt s k
-part-in-place s k = go (parsed s) refl
+pub part-first : (s : List ℕ) (k : ℕ) → first (drop (placeAt s k) s) ≡ partAt s k
+part-first s k = go (parsed s) refl
   where
     go : (p : Parsed) → parsed s ≡ p → first (drop (placeAt s k) s) ≡ partAt s k
     go (Levels n) e = rw e (in-place s k (ltb k (length (split s))) refl)
     go (ParseRefused r) e = rw (e, drop-length s)
+
+-- "that level as a part of the caller's own bytes": it stands in the text at its place
+pub part-in-place : (s : List ℕ) (k : ℕ) → take (length (partAt s k)) (drop (placeAt s k) s) ≡ partAt s k
+part-in-place s k =
+    let e = part-first s k in
+    ap (λ (l : List ℕ). take (length l) (drop (placeAt s k) s)) (sym e) ∙ take-first (drop (placeAt s k) s) ∙ e

@@ -1,34 +1,38 @@
 -- Demand 3 for subscriptions, about the calls of this crate, which may test the region or not: what a listing gives after a run, and
 -- that two runs on opened regions, with the same calls for each pair in the same order and none refused for room, give the same
 -- listings, byte for byte. `Runs` of `edit` is a run: each of its steps is what `insert` or `remove` does on a store. Assumes nothing.
-use mathlib.Core.Path.{_≡_, refl, sym, ap, _∙_}
+use mathlib.Core.Path.{_≡_, sym, ap, _∙_}
 use Prim.Native.Nat.{ℕ, _≤_}
 use mathlib.Core.Bool.{true}
-use mathlib.Core.List.{List, []}
+use mathlib.Core.List.{List}
 use lib.ListN.{length}
 use Rattle.lent.specs.Parts.{part, patch}
 use Rattle.level.specs.Levels.{split}
 use Rattle.topic.specs.Rules.{nameRules}
 use Rattle.held.specs.Room.{Room, inRange}
-use Rattle.held.specs.History.{run, hasRoom}
-use Rattle.held.specs.Subscriptions.{Pair, Call, SameCalls, subscriptions, listing, listingBytes}
+use Rattle.held.specs.Subscriptions.{AscPairs, Call, SameCalls, listing, listingBytes}
 use Rattle.held.specs.Caught.{Caught}
 use Rattle.held.specs.Forest.{held}
+use Rattle.held.proofs.Forests.{well-pairs}
 use Rattle.held.proofs.Histories.{same-held}
 use Rattle.held.proofs.CaughtLaws.{history-caught}
 use Rattle.region.specs.Layout.{neededBytes, headerBytes}
 use Rattle.region.specs.Opening.{nothing}
 use Rattle.region.specs.Units.{valueOf}
-use Rattle.region.specs.Store.{roomAt}
+use Rattle.region.specs.Store.{roomAt, forestAt, SubscriptionStore}
 use Rattle.region.proofs.Stores.{opened-forest, opened-subscriptions}
 use Rattle.edit.specs.Runs.{Runs, Empty}
-use Rattle.edit.specs.Given.{listedBy, givenBytes, enoughRoom}
+use Rattle.edit.specs.Given.{givenBytes, enoughRoom}
 use Rattle.edit.proofs.RunLaws.{from-empty}
-use Rattle.edit.proofs.GiveLaws.{given-front, same-given}
+use Rattle.edit.proofs.GiveLaws.{given-front, same-listed}
 use Rattle.edit.specs.declared.Listed.{Listed}
 use Rattle.edit.specs.declared.Listed.the-variants.{Given}
 use Rattle.trie.specs.Calls.{heldIn, subscriptionStore}
 use Rattle.trie.specs.Listings.{ListsKnown}
+
+-- "The store holds a set of pairs": what a store holds strictly ascends
+pub held-set : {s : List ℕ} → SubscriptionStore s → AscPairs (heldIn s)
+held-set {s} st = well-pairs (forestAt valueOf s) (st .well)
 
 -- which pairs a listing has after a run: exactly those that the calls left subscribed and whose filter takes the name
 pub runs-caught : {cs : List Call} {s t : List ℕ} → Empty subscriptionStore s → Runs subscriptionStore cs s t
@@ -49,9 +53,9 @@ module _ {cs ds : List Call} {s t u v : List ℕ} (a : Empty subscriptionStore s
   -- and a listing gives the same, into buffers of any lengths that both have enough room, or both have not
   pub runs-list : (name : List ℕ) {before before' after after' : List ℕ} {r q : Listed} → ListsKnown t name before after r → ListsKnown v name before' after' q
       → enoughRoom r ≡ enoughRoom q → (r ≡ q) × (givenBytes r after ≡ givenBytes q after')
-  runs-list name {before} {before'} {after} {after'} {r} {q} k l e =
-      same-given (nameRules name) (listedBy (listingBytes (split name) (heldIn v)) (length (listing (split name) (heldIn v)))) (listingBytes (split name) (heldIn v)) (from-empty subscriptionStore a x .2)
-      (from-empty subscriptionStore b y .2) enoughRoom givenBytes refl refl (λ _. refl) (λ _ _. refl) (rw runs-hold at k) l e
+  runs-list name k l e =
+      same-listed (nameRules name) (listingBytes (split name) (heldIn v)) (length (listing (split name) (heldIn v))) (from-empty subscriptionStore a x .2) (from-empty subscriptionStore b y .2)
+      (rw runs-hold at k) l e
 
 -- a region that is opened is a store that holds nothing
 pub opened-empty : (r : Room) (s : List ℕ) → inRange r ≡ true → neededBytes r ≤ length s → Empty subscriptionStore (patch 0 (headerBytes 1 r nothing) s)

@@ -28,17 +28,17 @@ use Rattle.trie.specs.Sizes.{nodesTold, valuesTold}
 module _ (s : List ℕ) (all : AreBytes s) where
   -- `insert` and `remove`
   pub changes-settled : (call : Call) {t u : List ℕ} {r q : Changed} → Calls subscriptionStore call s t r → Calls subscriptionStore call s u q → (r ≡ q) × Same subscriptionStore t u
-  changes-settled call x y = calls-settled subscriptionStore call s _ (decided Subscriptions s all) x y
+  changes-settled call x y = calls-settled subscriptionStore call s (decided Subscriptions s all) x y
 
   pub is-match-settled : (name : List ℕ) → Settles (Asks s name)
   is-match-settled name r q x y =
-      store-or-none _ (decided Subscriptions s all) (λ st. x .on-store .told st ∙ sym (y .on-store .told st)) (λ no. x .on-other no ∙ sym (y .on-other no))
+      store-or-none (decided Subscriptions s all) (λ st. x .on-store .told st ∙ sym (y .on-store .told st)) (λ no. x .on-other no ∙ sym (y .on-other no))
 
   pub matches-settled : (name before : List ℕ) {after after' : List ℕ} {r q : Listed} → Lists s name before after r → Lists s name before after' q → (r ≡ q) × (after ≡ after')
-  matches-settled name before x y = gives-settled _ (decided Subscriptions s all) x y
+  matches-settled name before x y = gives-settled (decided Subscriptions s all) x y
 
   pub nodes-size-settled : Settles (λ (r : NodesSize). Counts (SubscriptionStore s) (nodeCount (heldIn s)) (nodesTold r))
-  nodes-size-settled r q x y = once r q (counts-settled _ (decided Subscriptions s all) x y)
+  nodes-size-settled r q x y = once r q (counts-settled (decided Subscriptions s all) x y)
     where
       once : (r q : NodesSize) → nodesTold r ≡ nodesTold q → r ≡ q
       once (Held n) (Held m) e = ap {B = NodesSize} (λ (x : ℕ). Held (record { 0 = x })) (same-answer e)
@@ -47,7 +47,7 @@ module _ (s : List ℕ) (all : AreBytes s) where
       once (Refused x) (Held m) e = cc
 
   pub values-size-settled : Settles (λ (r : ValuesSize). Counts (SubscriptionStore s) (length (heldIn s)) (valuesTold r))
-  values-size-settled r q x y = once r q (counts-settled _ (decided Subscriptions s all) x y)
+  values-size-settled r q x y = once r q (counts-settled (decided Subscriptions s all) x y)
     where
       once : (r q : ValuesSize) → valuesTold r ≡ valuesTold q → r ≡ q
       once (ValuesHeld n) (ValuesHeld m) e = ap {B = ValuesSize} (λ (x : ℕ). ValuesHeld (record { 0 = x })) (same-answer e)

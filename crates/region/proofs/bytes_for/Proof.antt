@@ -6,18 +6,28 @@ use Rattle.region.proofs.Sizes.{few-units}
 use Rattle.region.proofs.bytes_for.Statement.{statement}
 use Rattle.region.proofs.bytes_for.Tie as tie
 
+mul-result : tie.Need-mul-result
+mul-result c =
+    let s = c .before .before .before .before in
+    record { fits = omega (arith, few-units (roomOf (s .args .c)) (s .pre)) }
+
 add-result : tie.Need-add-result
 add-result c =
+    let s = c .before .before .before .before in
+    record { fits = omega (arith, few-units (roomOf (s .args .c)) (s .pre)) }
+
+mul-result-2 : tie.Need-mul-result-2
+mul-result-2 c =
     let s = c .before .before .before .before .before in
     record { fits = omega (arith, few-units (roomOf (s .args .c)) (s .pre)) }
 
 add-result-2 : tie.Need-add-result-2
 add-result-2 c =
-    let s = c .before .before .before .before .before .before in
+    let s = c .before .before .before .before .before in
     record { fits = omega (arith, few-units (roomOf (s .args .c)) (s .pre)) }
 
-mul-result : tie.Need-mul-result
-mul-result c =
+mul-result-3 : tie.Need-mul-result-3
+mul-result-3 c =
     let s = c .before .before .before .before .before .before in
     record { fits = omega (arith, few-units (roomOf (s .args .c)) (s .pre)) }
 
@@ -32,4 +42,4 @@ returns c =
     (refl, omega (arith, few-units (roomOf (s .args .c)) (s .pre)))
 
 pub bytes-for-spec : {M : Type 1} → statement M
-bytes-for-spec = tie.close (tie.spec add-result add-result-2 mul-result add-result-3 returns)
+bytes-for-spec = tie.close (tie.spec mul-result add-result mul-result-2 add-result-2 mul-result-3 add-result-3 returns)
