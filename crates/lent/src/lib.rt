@@ -1,4 +1,6 @@
 // Numbers, parts, copies and gaps in lent bytes. A number stands with its high byte first. Every function takes all places: what does not fit within the bytes reads as 0 and writes nothing.
+#![tactic(auto)]
+
 mod moves;
 mod numbers;
 

@@ -1,0 +1,13 @@
+-- `lent::numbers::get32` meets its contract. Assumes nothing.
+use borrow.Author.Rules.{rules}
+use Rattle.lent.proofs.Anywhere.{got, got_short, got_far}
+use Rattle.lent.proofs.numbers.get32.Goals as goal
+
+pub returns-then-s-lt4 : goal.returns-then-s-lt4
+returns-then-s-lt4 c = search (rules, got_short 4)
+
+pub returns-then-s-at : goal.returns-then-s-at
+returns-then-s-at c = search (rules, got_far 4)
+
+pub returns : goal.returns
+returns c = search (rules, got 4)
