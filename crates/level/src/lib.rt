@@ -1,4 +1,6 @@
 // The levels of a text: what stands between its '/'s. A level is handed out as a part of the caller's own bytes.
+#![tactic(auto)]
+
 ghost use Rattle.std.specs.Prelude.{◌≡◌, length, drop};
 ghost use Rattle.level.specs.Levels.{split, start_of, has};
 ghost use Rattle.level.specs.Kinds.{is_only, wild, dollar, bad, same, kind_of};

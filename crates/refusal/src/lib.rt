@@ -1,4 +1,6 @@
 // The refusals of document 01, by their names. Each is told to a caller by its number and its place.
+#![tactic(auto)]
+
 ghost use Rattle.std.specs.Prelude.{◌≡◌};
 ghost use Rattle.refusal.specs.Refusals.{told};
 

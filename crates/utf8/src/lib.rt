@@ -1,5 +1,7 @@
 // UTF-8 by RFC 3629, section 4: the octets of a text that is not all ASCII are read through the tables, from left to right, and a
 // number says which octets are still due before the character that has begun is whole.
+#![tactic(auto)]
+
 mod tables;
 
 ghost use Rattle.std.specs.Prelude.{◌≡◌, ◌<◌, ◌≤◌, max};
@@ -22,7 +24,7 @@ fn larger(a: u8, b: u8) -> u8
 
 // Whether every octet is below 0x80: most texts are, and then the tables are not needed. The loop stops nowhere, so that the
 // compiler can take many octets in one step.
-fn is-ascii(text: &[u8]) -> bool
+fn is_ascii(text: &[u8]) -> bool
     ensures { result ≡ is_ascii text.now }
 {
     let mut top: u8 = 0;
@@ -78,7 +80,7 @@ fn is_followed(text: &[u8]) -> bool
 pub fn is_utf8(text: &[u8]) -> bool
     ensures { result ≡ is_utf8 text.now }
 {
-    if is-ascii(text) {
+    if is_ascii(text) {
         return true;
     }
     is_followed(text)
