@@ -47,6 +47,7 @@ whole-text s p = gone p.now p.fit p.parts
   where
     gone : (c : List ℕ) → Fit [] c → c ++ p.later ≡ s → Octets s
     gone [] f q = subst Octets q p.whole
+    gone (_ ∷ _) f q = elim f [ ]
 
 due_step : (r : Range) (e : List Range) (b : ℕ) (s : List ℕ) (t : Bool) → within r b ≡ t → (octets s e ≡ true → Parts e s)
     → on (cond t (go e) bad) (λ (d : List Range). octets s d) ≡ true → Parts (r ∷ e) (b ∷ s)
