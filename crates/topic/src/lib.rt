@@ -1,5 +1,7 @@
 // Topic names and filters (`topic.rs` of the Rust): parsing, the three validity tests, the three prefix tests, and
 // whether one filter takes one name. Every call takes all bytes; what it refuses, it refuses by a `Refusal`.
+#![tactic(auto)]
+
 mod faults;
 mod matching;
 mod parsing;
@@ -35,7 +37,7 @@ pub enum Matched {
 }
 
 // What can be wrong with a level: it is bad, or it is a '#' (which is wrong where it is not last).
-#[derive(Drop)]
+#[derive(Clone, Copy)]
 pub enum Fault {
     Bad,
     Hash,
