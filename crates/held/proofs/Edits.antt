@@ -1,5 +1,5 @@
 -- What a change along a path does to what a forest holds. Assumes nothing.
-use mathlib.Core.Path.{◌≡◌, refl, sym, ◌∙◌}
+use mathlib.Core.Path.{◌≡◌, refl, sym, subst, ◌∙◌}
 use mathlib.Core.Bool.{Bool, true, false, cond, ◌&&◌}
 use mathlib.Core.List.{List, [], ◌∷◌}
 use Rattle.level.specs.Kinds.{same}
@@ -79,7 +79,7 @@ module _ {X : Type 0} (u : List X → List X) where
       go : (s : Bool) → same h g ≡ s → values_at hs (cond s (hit (edit_own u gs []) (chain u gs)) (kid h (fork t v k n))) ≡ cond (s && same_filter hs gs) (u (values_at hs (kid h (fork t v k n)))) (values_at hs (kid h (fork t v k n)))
       go true e =
           let z : h ≡ g = level_order.eq_true h g e in
-          let m : kid h (fork t v k n) ≡ miss = rw z (kid_over g (fork t v k n) (p, over_mono g t n p o)) in
+          let m : kid h (fork t v k n) ≡ miss = subst (λ (x : Level). kid x (fork t v k n) ≡ miss) (sym z) (kid_over g (fork t v k n) (p, over_mono g t n p o)) in
           rw (m, at_miss hs) (new_node gs (at-chain gs) hs)
       go false e = refl
   grow_step t g gs v k n o a b (alike z) h hs = rw (z, level_order.irrefl t) (node_row t gs v k (grow_f u gs k) n a h hs)
