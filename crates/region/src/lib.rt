@@ -1,4 +1,6 @@
 // The region of a store: its header, the bytes that it needs, and opening it. specs/Layout.antt has the drawing.
+#![tactic(auto)]
+
 mod counts;
 mod fit;
 mod header;
@@ -16,24 +18,24 @@ use refusal::Refusal;
 use topic::Checked;
 
 // The two kinds of store.
-#[derive(Drop)]
+#[derive(Clone, Copy)]
 pub enum Kind {
     Subscriptions,
     Retained,
 }
 
 // Counts of different things are different types: a count of nodes is never compared with a count of pairs.
-#[derive(Drop)]
+#[derive(Clone, Copy)]
 pub struct Nodes(pub u64);
 
-#[derive(Drop)]
+#[derive(Clone, Copy)]
 pub struct Pairs(pub u64);
 
-#[derive(Drop)]
+#[derive(Clone, Copy)]
 pub struct Cells(pub u64);
 
 // What a store may hold at most.
-#[derive(Drop)]
+#[derive(Clone, Copy)]
 pub struct Capacities {
     pub nodes: Nodes,
     pub pairs: Pairs,
