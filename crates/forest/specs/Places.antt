@@ -19,8 +19,8 @@ forest_in read base s i n = decode read (part (unit_at base i) ((n - i) * 16) s)
 abbrev pub len_at : (base : ℕ) → List ℕ → ℕ → ℕ
 len_at base s i = be (part (unit_at base i) 2 s)
 
-abbrev pub field_own : (base : ℕ) → List ℕ → ℕ → ℕ
-field_own base s i = be (part (unit_at base i + 2) 2 s)
+abbrev pub own_at : (base : ℕ) → List ℕ → ℕ → ℕ
+own_at base s i = be (part (unit_at base i + 2) 2 s)
 
 abbrev pub below_at : (base : ℕ) → List ℕ → ℕ → ℕ
 below_at base s i = be (part (unit_at base i + 4) 2 s)
@@ -30,7 +30,7 @@ abbrev pub level_units_at : (base : ℕ) → List ℕ → ℕ → ℕ
 level_units_at base s i = units_for (len_at base s i)
 
 unfoldable pub row_end : (base : ℕ) → List ℕ → (i n : ℕ) → ℕ
-row_end base s i n = min (i + level_units_at base s i + field_own base s i) n
+row_end base s i n = min (i + level_units_at base s i + own_at base s i) n
 
 unfoldable pub kids_end : (base : ℕ) → List ℕ → (i n : ℕ) → ℕ
 kids_end base s i n = min (row_end base s i n + below_at base s i) n
@@ -40,12 +40,12 @@ unfoldable pub level_in : (base : ℕ) → List ℕ → (i n : ℕ) → List ℕ
 level_in base s i n = part (unit_at base i + 8) (min (len_at base s i) ((n - i) * 16 - 8)) s
 
 unfoldable pub own_in : {X : Type 0} → (read : List ℕ → X) → (base : ℕ) → List ℕ → (i n : ℕ) → List X
-own_in read base s i n = units_to read (field_own base s i) (part (unit_at base (i + level_units_at base s i)) ((n - (i + level_units_at base s i)) * 16) s)
+own_in read base s i n = units_to read (own_at base s i) (part (unit_at base (i + level_units_at base s i)) ((n - (i + level_units_at base s i)) * 16) s)
 
 -- a row as the code has it
 pub record RowAt (base : ℕ) (s : List ℕ) (i n : ℕ) (r : Row) : Type 0 where
   pub len_is : r.len ≡ len_at base s i
-  pub own_is : r.own ≡ field_own base s i
+  pub own_is : r.own ≡ own_at base s i
   pub end_is : r.end ≡ row_end base s i n
   pub past_is : r.past ≡ kids_end base s i n
   pub on : i < r.end

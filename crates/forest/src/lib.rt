@@ -2,6 +2,8 @@
 //
 // A row is known by the number of its first unit. `base` is where the units begin. Whatever the bytes are, a row's `end` and
 // `past` never lead beyond unit `n`; its `len` and `own` are as the bytes say.
+#![tactic(auto)]
+
 mod levels;
 mod rows;
 
