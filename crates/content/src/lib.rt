@@ -1,4 +1,6 @@
 // What a row of units has: its level, and the units of what its node holds. Each is tested as it stands.
+#![tactic(auto)]
+
 mod levels;
 mod units;
 
