@@ -2,6 +2,8 @@
 //
 // A child is found by halving its row where it is long. A row's siblings are found by the marks of the region: a byte for each
 // unit, at place 64 and the unit's number, with the depth of the row that begins there and 255 where none does.
+#![tactic(auto)]
+
 mod children;
 mod paths;
 
