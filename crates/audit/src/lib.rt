@@ -1,4 +1,6 @@
 // The test of a region: whether it is a store. One pass over its units decides it.
+#![tactic(auto)]
+
 mod placed;
 mod rows;
 mod whole;
@@ -22,7 +24,7 @@ pub enum Tally {
 }
 
 // The numbers of a row's head: the length of its level, how many it holds, the units below it, and one that is 0.
-#[derive(Drop)]
+#[derive(Clone, Copy)]
 pub struct Head {
     pub len: usize,
     pub own: usize,
