@@ -1,4 +1,6 @@
 // Making room in a region and taking it away.
+#![tactic(auto)]
+
 mod below;
 mod chain;
 mod counts;

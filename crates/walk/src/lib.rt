@@ -3,6 +3,8 @@
 // From a node the walk takes the child '#', then the child '+', then the child with the name's next level; where the name ends,
 // the node itself and then its child '#'. A first level that begins with '$' is taken only as it is. Whatever the bytes are, a
 // walk ends and stays within the units; no store is deeper than 128, and there a walk stops.
+#![tactic(auto)]
+
 mod bounds;
 mod hits;
 mod nodes;
