@@ -101,7 +101,7 @@ module _ (base : ℕ) (s : List ℕ) (left lo hi : ℕ) (filter : List ℕ) (fro
       taken : (F : Forest Stored) → Taken (levels_at filter from) F
       taken F =
           let e = sym of.wild_is ∙ w in
-          rw of.level.levels (taken-all _ _ (rw of.level.levels at e) F)
+          rw of.level.levels (taken-all (take (step.stop - from) (drop from filter)) (levels_at filter (step.stop + 1)) (rw of.level.levels at e) F)
 
   module _ (plain : step.wild ≡ false) {c : Child} (ask : RawStands base s (129 - left) lo hi → c ≡ child_of (take (step.stop - from) (drop from filter)) lo (raw_in base s lo hi)) where
     abbrev g : Level

@@ -4,6 +4,8 @@
 // The depth left falls by one from a row to the next. A level of the filter that is no wildcard is found by halving, so that only one
 // node of its row is visited. Each record has a number, from 0 on; a page gives those from `offset` on, at most `limit` of them.
 // Whatever the bytes are, a walk ends and stays within the units.
+#![tactic(auto)]
+
 mod lives;
 mod sizes;
 mod spans;
@@ -15,7 +17,7 @@ pub use spans::{along_row, is_hidden};
 pub use steps::ends_at;
 
 // What is asked: the names at a time, and the page of them.
-#[derive(Drop)]
+#[derive(Clone, Copy)]
 pub struct Query {
     pub clock: u64,
     pub offset: u64,
@@ -46,7 +48,7 @@ pub enum Life {
 
 // The level of a filter that begins at a place: where it ends, where the levels begin that are left below it, and whether it is a
 // wildcard.
-#[derive(Drop)]
+#[derive(Clone, Copy)]
 struct Step {
     stop: usize,
     next: usize,
