@@ -1,1 +1,2 @@
 // What the changes of a region do to the forest that it holds: laws alone.
+#![tactic(auto)]

@@ -57,8 +57,8 @@ unit-less s base n nodes node at answer h e = rw e (taken (omega arith))
 
 -- the tests of is_alone
 module _ (base : ℕ) (s : List ℕ) (n node : ℕ) {row : Row} (r : RowAt base s node n row) where
-  pub alone-not : (row.own_val ≡ 1 → ⊥) → false ≡ alone_in base s n node
-  alone-not h = rw (← r.own_is, ne_eqb row.own_val 1 h)
+  pub alone-not : (row.own ≡ 1 → ⊥) → false ≡ alone_in base s n node
+  alone-not h = rw (← r.own_is, ne_eqb row.own 1 h)
 
-  pub alone_is : row.own_val ≡ 1 → eqb row.end row.past ≡ alone_in base s n node
-  alone_is h = rw (← r.own_is, ← r.end_is, ← r.past_is, eq-eqb row.own_val 1 h)
+  pub alone_is : row.own ≡ 1 → eqb row.end row.past ≡ alone_in base s n node
+  alone_is h = rw (← r.own_is, ← r.end_is, ← r.past_is, eq-eqb row.own 1 h)

@@ -2,6 +2,8 @@
 //
 // A node holds units of 16 bytes: values, or a record. What is put in or taken away is such a unit, alone or with the nodes that
 // it needs.
+#![tactic(auto)]
+
 mod adding;
 mod taking;
 

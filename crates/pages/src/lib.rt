@@ -2,6 +2,8 @@
 //
 // The walk keeps the first unit of each row of its path, and a name's text is written level by level from the region's own bytes.
 // Whatever the bytes of the region are, nothing is written past the buffer and its length stays.
+#![tactic(auto)]
+
 mod records;
 mod texts;
 mod writing;
@@ -10,7 +12,7 @@ pub use writing::write_all;
 
 // What is asked: of the units of a region, which begin at `base` and of which n are in use, the names at a time, and the page of
 // them.
-#[derive(Drop)]
+#[derive(Clone, Copy)]
 pub struct Ask {
     pub base: usize,
     pub n: usize,

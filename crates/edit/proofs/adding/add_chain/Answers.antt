@@ -1,0 +1,23 @@
+-- `edit::adding::add_chain` meets its contract. Assumes nothing.
+use Rattle.edit.proofs.AddLaws.{chain_refused, chain_short, chain_added, nodes-under, chain_deep}
+use borrow.Author.Rules.{rules}
+use Rattle.edit.proofs.adding.add_chain.Goals as goal
+
+-- src/adding.rt:68:9
+pub returns-in-Refused : goal.returns-in-Refused
+returns-in-Refused c = search (rules, chain_refused)
+
+-- src/adding.rt:71:9
+pub returns-then-room-n : goal.returns-then-room-n
+returns-then-room-n c = search (rules, chain_short)
+
+-- src/adding.rt:74:5
+pub make_chain-requires : goal.make_chain-requires
+make_chain-requires c = record {
+  depth_bound = (search rules, search (rules, nodes-under, c.well_formed), search rules, search rules, search rules);
+  wanted_for = (search rules, search rules, search rules, search rules, search (rules, chain_deep));
+}
+
+-- src/adding.rt:45:1
+pub returns : goal.returns
+returns c = search (rules, chain_added)

@@ -1,0 +1,16 @@
+-- `edit::adding::add_unit` meets its contract. Assumes nothing.
+use Rattle.edit.proofs.AddLaws.{add_refused, add_short, unit_added}
+use borrow.Author.Rules.{rules}
+use Rattle.edit.proofs.adding.add_unit.Goals as goal
+
+-- src/adding.rt:35:9
+pub returns-in-Refused : goal.returns-in-Refused
+returns-in-Refused c = search (rules, add_refused)
+
+-- src/adding.rt:38:9
+pub returns-then-room-n : goal.returns-then-room-n
+returns-then-room-n c = search (rules, add_short)
+
+-- src/adding.rt:19:1
+pub returns : goal.returns
+returns c = search (rules, unit_added)
