@@ -1,5 +1,7 @@
 // Removing all expired records of a store of retained names, in one pass over its rows that moves what stays towards the
 // front, in place.
+#![tactic(auto)]
+
 mod node;
 mod row;
 mod rows;
@@ -8,7 +10,7 @@ mod whole;
 pub use whole::remove_expired;
 
 // What stays of some rows: the unit behind it, and its nodes, pairs and cells.
-#[derive(Drop)]
+#[derive(Clone, Copy)]
 pub struct Kept {
     pub to: usize,
     pub nodes: usize,
