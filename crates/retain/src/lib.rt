@@ -1,4 +1,6 @@
 // The store of retained names: one record for each name, a handle and a moment at which it expires, or none.
+#![tactic(auto)]
+
 mod asking;
 mod calls;
 mod counting;

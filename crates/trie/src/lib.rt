@@ -1,4 +1,6 @@
 // The store of subscriptions: filters with their values.
+#![tactic(auto)]
+
 mod asking;
 mod calls;
 mod inserting;

@@ -1,0 +1,12 @@
+-- `trie::slots::slot_of` meets its contract. Assumes nothing.
+use Rattle.trie.proofs.SlotLaws.{slot_broken, slot_sound}
+use borrow.Author.Rules.{rules}
+use Rattle.trie.proofs.slots.slot_of.Goals as goal
+
+-- src/slots.rt:18:9
+pub returns-then-end-first : goal.returns-then-end-first
+returns-then-end-first c = search (rules, slot_broken)
+
+-- src/slots.rt:10:1
+pub returns : goal.returns
+returns c = search (rules, slot_sound)
