@@ -21,9 +21,8 @@ fn capacities(nodes: u64, pairs: u64, cells: u64) -> Capacities
 }
 
 // Both kinds need the same.
-#[unsafe(no_mangle)]
-pub extern "C" fn cjumbradi_needed(nodes: u64, pairs: u64, cells: u64, bytes: &mut u64) -> u64
-    ensures { (result at (λ x. x.now) bytes.exit) ≡ of_size (needed_of (room_for nodes pairs cells)) }
+pub fn cjumbradi_needed(nodes: u64, pairs: u64, cells: u64, bytes: &mut u64) -> u64
+    ensures { (result at bytes.new) ≡ of_size (needed_of (room_for nodes pairs cells)) }
 {
     tell_size(
         region::needed(Kind::Subscriptions, capacities(nodes, pairs, cells)),
@@ -31,30 +30,28 @@ pub extern "C" fn cjumbradi_needed(nodes: u64, pairs: u64, cells: u64, bytes: &m
     )
 }
 
-#[unsafe(no_mangle)]
-pub extern "C" fn cjumbradi_open_subscriptions(
+pub fn cjumbradi_open_subscriptions(
     region: &mut [u8],
     nodes: u64,
     pairs: u64,
     cells: u64,
     place: &mut u64,
 ) -> u64
-    ensures place_value { (result at (λ x. x.now) place.exit) ≡ of_checked (checked (open_rules (room_for nodes pairs cells) region.old)) }
+    ensures place_value { (result at place.new) ≡ of_checked (checked (open_rules (room_for nodes pairs cells) region.old)) }
     ensures region_after { region.new ≡ opened_as (checked (open_rules (room_for nodes pairs cells) region.old)) Subscriptions (room_for nodes pairs cells) region.old }
 {
     let opened = region::open(region, Kind::Subscriptions, capacities(nodes, pairs, cells));
     tell_checked(opened, place)
 }
 
-#[unsafe(no_mangle)]
-pub extern "C" fn cjumbradi_open_retained(
+pub fn cjumbradi_open_retained(
     region: &mut [u8],
     nodes: u64,
     pairs: u64,
     cells: u64,
     place: &mut u64,
 ) -> u64
-    ensures place_value { (result at (λ x. x.now) place.exit) ≡ of_checked (checked (open_rules (room_for nodes pairs cells) region.old)) }
+    ensures place_value { (result at place.new) ≡ of_checked (checked (open_rules (room_for nodes pairs cells) region.old)) }
     ensures region_after { region.new ≡ opened_as (checked (open_rules (room_for nodes pairs cells) region.old)) Retained (room_for nodes pairs cells) region.old }
 {
     let opened = region::open(region, Kind::Retained, capacities(nodes, pairs, cells));

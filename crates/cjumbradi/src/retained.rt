@@ -23,8 +23,7 @@ pub fn moment_given(expires: u64, moment: u64) -> Moment
     Moment::At(moment)
 }
 
-#[unsafe(no_mangle)]
-pub extern "C" fn cjumbradi_set(
+pub fn cjumbradi_set(
     region: &mut [u8],
     name: &[u8],
     payload: u64,
@@ -33,14 +32,13 @@ pub extern "C" fn cjumbradi_set(
     moment: u64,
     answer: &mut u64,
 ) -> u64
-    ensures { Tells of_changed (Calls retained_store (set name.now payload (stored_as handle (given_moment expires moment))) region.old region.new) (result at (λ x. x.now) answer.exit) }
+    ensures { Tells of_changed (Calls retained_store (set name.now payload (stored_as handle (given_moment expires moment))) region.old region.new) (result at answer.new) }
 {
     let when = moment_given(expires, moment);
     tell_changed(retain::set(region, name, payload, handle, when), answer)
 }
 
-#[unsafe(no_mangle)]
-pub extern "C" fn cjumbradi_lookup(
+pub fn cjumbradi_lookup(
     region: &[u8],
     filter: &[u8],
     clock: u64,
@@ -48,13 +46,12 @@ pub extern "C" fn cjumbradi_lookup(
     bytes: &mut u64,
     records: &mut u64,
 ) -> u64
-    ensures { Tells of_listed (Looks region.now filter.now clock out.old out.new) (result at (λ x. x.now) bytes.exit, records.new) }
+    ensures { Tells of_listed (Looks region.now filter.now clock out.old out.new) (result at bytes.new, records.new) }
 {
     tell_listed(retain::get(region, filter, clock, out), bytes, records)
 }
 
-#[unsafe(no_mangle)]
-pub extern "C" fn cjumbradi_page(
+pub fn cjumbradi_page(
     region: &[u8],
     clock: u64,
     offset: u64,
@@ -64,22 +61,20 @@ pub extern "C" fn cjumbradi_page(
     records: &mut u64,
     more: &mut u64,
 ) -> u64
-    ensures { Tells of_paged (Pages region.now clock offset limit out.old out.new) (result at (λ x. x.now) bytes.exit, records.new, more.new) }
+    ensures { Tells of_paged (Pages region.now clock offset limit out.old out.new) (result at bytes.new, records.new, more.new) }
 {
     let page = retain::get_all_paginated(region, clock, offset, limit, out);
     tell_paged(page, bytes, records, more)
 }
 
-#[unsafe(no_mangle)]
-pub extern "C" fn cjumbradi_sweep(region: &mut [u8], clock: u64, removed: &mut u64) -> u64
-    ensures { Tells of_changed (Calls retained_store (sweep clock) region.old region.new) (result at (λ x. x.now) removed.exit) }
+pub fn cjumbradi_sweep(region: &mut [u8], clock: u64, removed: &mut u64) -> u64
+    ensures { Tells of_changed (Calls retained_store (sweep clock) region.old region.new) (result at removed.new) }
 {
     tell_changed(retain::remove_expired(region, clock), removed)
 }
 
-#[unsafe(no_mangle)]
-pub extern "C" fn cjumbradi_count(region: &[u8], value: &mut u64) -> u64
-    ensures { Tells of_outcome (Counts (RetainedStore region.now) (length (held_in region.now))) (result at (λ x. x.now) value.exit) }
+pub fn cjumbradi_count(region: &[u8], value: &mut u64) -> u64
+    ensures { Tells of_outcome (Counts (RetainedStore region.now) (length (held_in region.now))) (result at value.new) }
 {
     tell_names(retain::count(region), value)
 }

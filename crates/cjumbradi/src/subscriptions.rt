@@ -13,60 +13,44 @@ ghost use Rattle.cjumbradi.specs.Stores.{of_changed, of_listed, of_outcome, Tell
 
 use crate::telling::{tell_changed, tell_listed, tell_matched, tell_nodes, tell_values};
 
-#[unsafe(no_mangle)]
-pub extern "C" fn cjumbradi_insert(
-    region: &mut [u8],
-    filter: &[u8],
-    value: u32,
-    answer: &mut u64,
-) -> u64
-    ensures { Tells of_changed (Calls subscription_store (insert filter.now value) region.old region.new) (result at (λ x. x.now) answer.exit) }
+pub fn cjumbradi_insert(region: &mut [u8], filter: &[u8], value: u32, answer: &mut u64) -> u64
+    ensures { Tells of_changed (Calls subscription_store (insert filter.now value) region.old region.new) (result at answer.new) }
 {
     tell_changed(trie::insert(region, filter, value), answer)
 }
 
-#[unsafe(no_mangle)]
-pub extern "C" fn cjumbradi_remove(
-    region: &mut [u8],
-    filter: &[u8],
-    value: u32,
-    answer: &mut u64,
-) -> u64
-    ensures { Tells of_changed (Calls subscription_store (remove filter.now value) region.old region.new) (result at (λ x. x.now) answer.exit) }
+pub fn cjumbradi_remove(region: &mut [u8], filter: &[u8], value: u32, answer: &mut u64) -> u64
+    ensures { Tells of_changed (Calls subscription_store (remove filter.now value) region.old region.new) (result at answer.new) }
 {
     tell_changed(trie::remove(region, filter, value), answer)
 }
 
-#[unsafe(no_mangle)]
-pub extern "C" fn cjumbradi_is_match(region: &[u8], name: &[u8], yes: &mut u64) -> u64
-    ensures { Tells of_matched (Asks region.now name.now) (result at (λ x. x.now) yes.exit) }
+pub fn cjumbradi_is_match(region: &[u8], name: &[u8], yes: &mut u64) -> u64
+    ensures { Tells of_matched (Asks region.now name.now) (result at yes.new) }
 {
     tell_matched(trie::is_match(region, name), yes)
 }
 
-#[unsafe(no_mangle)]
-pub extern "C" fn cjumbradi_listing(
+pub fn cjumbradi_listing(
     region: &[u8],
     name: &[u8],
     out: &mut [u8],
     bytes: &mut u64,
     records: &mut u64,
 ) -> u64
-    ensures { Tells of_listed (Lists region.now name.now out.old out.new) (result at (λ x. x.now) bytes.exit, records.new) }
+    ensures { Tells of_listed (Lists region.now name.now out.old out.new) (result at bytes.new, records.new) }
 {
     tell_listed(trie::matches(region, name, out), bytes, records)
 }
 
-#[unsafe(no_mangle)]
-pub extern "C" fn cjumbradi_nodes_size(region: &[u8], value: &mut u64) -> u64
-    ensures { Tells of_outcome (Counts (SubscriptionStore region.now) (node_count (held_in region.now))) (result at (λ x. x.now) value.exit) }
+pub fn cjumbradi_nodes_size(region: &[u8], value: &mut u64) -> u64
+    ensures { Tells of_outcome (Counts (SubscriptionStore region.now) (node_count (held_in region.now))) (result at value.new) }
 {
     tell_nodes(trie::nodes_size(region), value)
 }
 
-#[unsafe(no_mangle)]
-pub extern "C" fn cjumbradi_values_size(region: &[u8], value: &mut u64) -> u64
-    ensures { Tells of_outcome (Counts (SubscriptionStore region.now) (length (held_in region.now))) (result at (λ x. x.now) value.exit) }
+pub fn cjumbradi_values_size(region: &[u8], value: &mut u64) -> u64
+    ensures { Tells of_outcome (Counts (SubscriptionStore region.now) (length (held_in region.now))) (result at value.new) }
 {
     tell_values(trie::values_size(region), value)
 }

@@ -17,21 +17,21 @@ use trie::{NodesSize, ValuesSize};
 
 // Nothing is refused, and this was found.
 fn tell_found(found: u64, value: &mut u64) -> u64
-    ensures { (result at (λ x. x.now) value.exit) ≡ (0 at found) }
+    ensures { (result at value.new) ≡ (0 at found) }
 {
     *value = found;
     0
 }
 
 fn tell_refusal(refusal: Refusal, place: &mut u64) -> u64
-    ensures { (result at (λ x. x.now) place.exit) ≡ told refusal }
+    ensures { (result at place.new) ≡ told refusal }
 {
     *place = refusal::place(refusal);
     refusal::number(refusal)
 }
 
 pub fn tell_checked(checked: Checked, place: &mut u64) -> u64
-    ensures { (result at (λ x. x.now) place.exit) ≡ of_checked checked }
+    ensures { (result at place.new) ≡ of_checked checked }
 {
     match checked {
         Checked::Accepted => tell_found(0, place),
@@ -40,7 +40,7 @@ pub fn tell_checked(checked: Checked, place: &mut u64) -> u64
 }
 
 pub fn tell_parsed(parsed: Parsed, value: &mut u64) -> u64
-    ensures { (result at (λ x. x.now) value.exit) ≡ of_parsed parsed }
+    ensures { (result at value.new) ≡ of_parsed parsed }
 {
     match parsed {
         Parsed::Levels { count } => tell_found(count as u64, value),
@@ -49,7 +49,7 @@ pub fn tell_parsed(parsed: Parsed, value: &mut u64) -> u64
 }
 
 pub fn tell_matched(matched: Matched, value: &mut u64) -> u64
-    ensures { (result at (λ x. x.now) value.exit) ≡ of_matched matched }
+    ensures { (result at value.new) ≡ of_matched matched }
 {
     match matched {
         Matched::Yes => tell_found(1, value),
@@ -59,7 +59,7 @@ pub fn tell_matched(matched: Matched, value: &mut u64) -> u64
 }
 
 pub fn tell_bool(answer: bool, yes: &mut u64) -> u64
-    ensures { (result at (λ x. x.now) yes.exit) ≡ of_bool answer }
+    ensures { (result at yes.new) ≡ of_bool answer }
 {
     if answer {
         return tell_found(1, yes);
@@ -68,7 +68,7 @@ pub fn tell_bool(answer: bool, yes: &mut u64) -> u64
 }
 
 pub fn tell_kind(kind: Kind, value: &mut u64) -> u64
-    ensures { (result at (λ x. x.now) value.exit) ≡ of_kind kind }
+    ensures { (result at value.new) ≡ of_kind kind }
 {
     match kind {
         Kind::None => tell_found(0, value),
@@ -81,7 +81,7 @@ pub fn tell_kind(kind: Kind, value: &mut u64) -> u64
 }
 
 pub fn tell_size(size: Size, value: &mut u64) -> u64
-    ensures { (result at (λ x. x.now) value.exit) ≡ of_size size }
+    ensures { (result at value.new) ≡ of_size size }
 {
     match size {
         Size::Bytes(bytes) => tell_found(bytes, value),
@@ -90,7 +90,7 @@ pub fn tell_size(size: Size, value: &mut u64) -> u64
 }
 
 pub fn tell_changed(changed: Changed, value: &mut u64) -> u64
-    ensures { (result at (λ x. x.now) value.exit) ≡ of_changed changed }
+    ensures { (result at value.new) ≡ of_changed changed }
 {
     match changed {
         Changed::Done(answer) => tell_found(answer, value),
@@ -100,7 +100,7 @@ pub fn tell_changed(changed: Changed, value: &mut u64) -> u64
 
 // A listing or a lookup has two values: its bytes, or the place of the refusal, and its records.
 pub fn tell_listed(listed: Listed, value: &mut u64, count: &mut u64) -> u64
-    ensures { (result at (λ x. x.now) value.exit, count.new) ≡ of_listed listed }
+    ensures { (result at value.new, count.new) ≡ of_listed listed }
 {
     match listed {
         Listed::Given { bytes, records } => {
@@ -125,7 +125,7 @@ fn one_if(yes: bool) -> u64
 
 // A page has three: also whether more follows.
 pub fn tell_paged(paged: Paged, value: &mut u64, count: &mut u64, follows: &mut u64) -> u64
-    ensures { (result at (λ x. x.now) value.exit, count.new, follows.new) ≡ of_paged paged }
+    ensures { (result at value.new, count.new, follows.new) ≡ of_paged paged }
 {
     match paged {
         Paged::Given {
@@ -146,7 +146,7 @@ pub fn tell_paged(paged: Paged, value: &mut u64, count: &mut u64, follows: &mut 
 }
 
 pub fn tell_nodes(size: NodesSize, value: &mut u64) -> u64
-    ensures { (result at (λ x. x.now) value.exit) ≡ of_outcome (nodes_told size) }
+    ensures { (result at value.new) ≡ of_outcome (nodes_told size) }
 {
     match size {
         NodesSize::Held(nodes) => tell_found(nodes.0, value),
@@ -155,7 +155,7 @@ pub fn tell_nodes(size: NodesSize, value: &mut u64) -> u64
 }
 
 pub fn tell_values(size: ValuesSize, value: &mut u64) -> u64
-    ensures { (result at (λ x. x.now) value.exit) ≡ of_outcome (values_told size) }
+    ensures { (result at value.new) ≡ of_outcome (values_told size) }
 {
     match size {
         ValuesSize::Held(pairs) => tell_found(pairs.0, value),
@@ -164,7 +164,7 @@ pub fn tell_values(size: ValuesSize, value: &mut u64) -> u64
 }
 
 pub fn tell_names(names: Names, value: &mut u64) -> u64
-    ensures { (result at (λ x. x.now) value.exit) ≡ of_outcome (names_told names) }
+    ensures { (result at value.new) ≡ of_outcome (names_told names) }
 {
     match names {
         Names::Held(pairs) => tell_found(pairs.0, value),

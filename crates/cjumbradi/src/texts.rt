@@ -7,23 +7,20 @@ ghost use Rattle.cjumbradi.specs.Calls.{of_checked, of_parsed, of_matched, of_bo
 
 use crate::telling::{tell_bool, tell_checked, tell_kind, tell_matched, tell_parsed};
 
-#[unsafe(no_mangle)]
-pub extern "C" fn cjumbradi_parse(text: &[u8], value: &mut u64) -> u64
-    ensures { (result at (λ x. x.now) value.exit) ≡ of_parsed (parsed text.now) }
+pub fn cjumbradi_parse(text: &[u8], value: &mut u64) -> u64
+    ensures { (result at value.new) ≡ of_parsed (parsed text.now) }
 {
     tell_parsed(topic::parse(text), value)
 }
 
-#[unsafe(no_mangle)]
-pub extern "C" fn cjumbradi_level_kind(text: &[u8], k: u64, kind: &mut u64) -> u64
-    ensures { (result at (λ x. x.now) kind.exit) ≡ of_kind (kind_at text.now k) }
+pub fn cjumbradi_level_kind(text: &[u8], k: u64, kind: &mut u64) -> u64
+    ensures { (result at kind.new) ≡ of_kind (kind_at text.now k) }
 {
     tell_kind(topic::level_kind(text, k as usize), kind)
 }
 
-#[unsafe(no_mangle)]
-pub extern "C" fn cjumbradi_level_part(text: &[u8], k: u64, start: &mut u64, len: &mut u64) -> u64
-    ensures start_value { (result at (λ x. x.now) start.exit) ≡ (0 at place_at text.now k) }
+pub fn cjumbradi_level_part(text: &[u8], k: u64, start: &mut u64, len: &mut u64) -> u64
+    ensures start_value { (result at start.new) ≡ (0 at place_at text.now k) }
     ensures len_after { len.new ≡ length (part_at text.now k) }
 {
     let at = topic::level_place(text, k as usize);
@@ -32,51 +29,44 @@ pub extern "C" fn cjumbradi_level_part(text: &[u8], k: u64, start: &mut u64, len
     0
 }
 
-#[unsafe(no_mangle)]
-pub extern "C" fn cjumbradi_is_valid_topic_name(text: &[u8], place: &mut u64) -> u64
-    ensures { (result at (λ x. x.now) place.exit) ≡ of_checked (checked (name_rules text.now)) }
+pub fn cjumbradi_is_valid_topic_name(text: &[u8], place: &mut u64) -> u64
+    ensures { (result at place.new) ≡ of_checked (checked (name_rules text.now)) }
 {
     tell_checked(topic::is_valid_topic_name(text), place)
 }
 
-#[unsafe(no_mangle)]
-pub extern "C" fn cjumbradi_is_valid_topic_filter(text: &[u8], place: &mut u64) -> u64
-    ensures { (result at (λ x. x.now) place.exit) ≡ of_checked (checked (filter_rules text.now)) }
+pub fn cjumbradi_is_valid_topic_filter(text: &[u8], place: &mut u64) -> u64
+    ensures { (result at place.new) ≡ of_checked (checked (filter_rules text.now)) }
 {
     tell_checked(topic::is_valid_topic_filter(text), place)
 }
 
-#[unsafe(no_mangle)]
-pub extern "C" fn cjumbradi_is_valid_subscription_filter(text: &[u8], place: &mut u64) -> u64
-    ensures { (result at (λ x. x.now) place.exit) ≡ of_checked (checked (subscription_rules text.now)) }
+pub fn cjumbradi_is_valid_subscription_filter(text: &[u8], place: &mut u64) -> u64
+    ensures { (result at place.new) ≡ of_checked (checked (subscription_rules text.now)) }
 {
     tell_checked(topic::is_valid_subscription_filter(text), place)
 }
 
-#[unsafe(no_mangle)]
-pub extern "C" fn cjumbradi_is_shared_subscription(text: &[u8], yes: &mut u64) -> u64
-    ensures { (result at (λ x. x.now) yes.exit) ≡ of_bool (starts (ascii "$share/") text.now) }
+pub fn cjumbradi_is_shared_subscription(text: &[u8], yes: &mut u64) -> u64
+    ensures { (result at yes.new) ≡ of_bool (starts (ascii "$share/") text.now) }
 {
     tell_bool(topic::is_shared_subscription(text), yes)
 }
 
-#[unsafe(no_mangle)]
-pub extern "C" fn cjumbradi_is_limit_subscription(text: &[u8], yes: &mut u64) -> u64
-    ensures { (result at (λ x. x.now) yes.exit) ≡ of_bool (starts (ascii "$limit/") text.now) }
+pub fn cjumbradi_is_limit_subscription(text: &[u8], yes: &mut u64) -> u64
+    ensures { (result at yes.new) ≡ of_bool (starts (ascii "$limit/") text.now) }
 {
     tell_bool(topic::is_limit_subscription(text), yes)
 }
 
-#[unsafe(no_mangle)]
-pub extern "C" fn cjumbradi_is_exclusive_subscription(text: &[u8], yes: &mut u64) -> u64
-    ensures { (result at (λ x. x.now) yes.exit) ≡ of_bool (starts (ascii "$exclusive/") text.now) }
+pub fn cjumbradi_is_exclusive_subscription(text: &[u8], yes: &mut u64) -> u64
+    ensures { (result at yes.new) ≡ of_bool (starts (ascii "$exclusive/") text.now) }
 {
     tell_bool(topic::is_exclusive_subscription(text), yes)
 }
 
-#[unsafe(no_mangle)]
-pub extern "C" fn cjumbradi_matches(filter: &[u8], name: &[u8], value: &mut u64) -> u64
-    ensures { (result at (λ x. x.now) value.exit) ≡ of_matched (matched filter.now name.now) }
+pub fn cjumbradi_matches(filter: &[u8], name: &[u8], value: &mut u64) -> u64
+    ensures { (result at value.new) ≡ of_matched (matched filter.now name.now) }
 {
     tell_matched(topic::matches(filter, name), value)
 }

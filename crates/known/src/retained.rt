@@ -19,7 +19,7 @@ pub extern "C" fn cjumbradi_known_set(
     moment: u64,
     answer: &mut u64,
 ) -> u64
-    ensures { Tells of_changed (Does retained_store (set name.now payload (stored_as handle (given_moment expires moment))) region.old region.new) (result at (λ x. x.now) answer.exit) }
+    ensures { Tells of_changed (Does retained_store (set name.now payload (stored_as handle (given_moment expires moment))) region.old region.new) (result at answer.new) }
 {
     let when = moment_given(expires, moment);
     tell_changed(
@@ -37,7 +37,7 @@ pub extern "C" fn cjumbradi_known_lookup(
     bytes: &mut u64,
     records: &mut u64,
 ) -> u64
-    ensures { Tells of_listed (LooksKnown region.now filter.now clock out.old out.new) (result at (λ x. x.now) bytes.exit, records.new) }
+    ensures { Tells of_listed (LooksKnown region.now filter.now clock out.old out.new) (result at bytes.new, records.new) }
 {
     tell_listed(
         retain::get_known(region, filter, clock, out),
@@ -57,7 +57,7 @@ pub extern "C" fn cjumbradi_known_page(
     records: &mut u64,
     more: &mut u64,
 ) -> u64
-    ensures { Tells of_paged (PagesKnown region.now clock offset limit out.old out.new) (result at (λ x. x.now) bytes.exit, records.new, more.new) }
+    ensures { Tells of_paged (PagesKnown region.now clock offset limit out.old out.new) (result at bytes.new, records.new, more.new) }
 {
     let page = retain::get_all_paginated_known(region, clock, offset, limit, out);
     tell_paged(page, bytes, records, more)
@@ -65,7 +65,7 @@ pub extern "C" fn cjumbradi_known_page(
 
 #[unsafe(no_mangle)]
 pub extern "C" fn cjumbradi_known_sweep(region: &mut [u8], clock: u64, removed: &mut u64) -> u64
-    ensures { Tells of_changed (Does retained_store (sweep clock) region.old region.new) (result at (λ x. x.now) removed.exit) }
+    ensures { Tells of_changed (Does retained_store (sweep clock) region.old region.new) (result at removed.new) }
 {
     tell_changed(retain::remove_expired_known(region, clock), removed)
 }

@@ -16,7 +16,7 @@ pub extern "C" fn cjumbradi_known_insert(
     value: u32,
     answer: &mut u64,
 ) -> u64
-    ensures { Tells of_changed (Does subscription_store (insert filter.now value) region.old region.new) (result at (λ x. x.now) answer.exit) }
+    ensures { Tells of_changed (Does subscription_store (insert filter.now value) region.old region.new) (result at answer.new) }
 {
     tell_changed(trie::insert_known(region, filter, value), answer)
 }
@@ -28,14 +28,14 @@ pub extern "C" fn cjumbradi_known_remove(
     value: u32,
     answer: &mut u64,
 ) -> u64
-    ensures { Tells of_changed (Does subscription_store (remove filter.now value) region.old region.new) (result at (λ x. x.now) answer.exit) }
+    ensures { Tells of_changed (Does subscription_store (remove filter.now value) region.old region.new) (result at answer.new) }
 {
     tell_changed(trie::remove_known(region, filter, value), answer)
 }
 
 #[unsafe(no_mangle)]
 pub extern "C" fn cjumbradi_known_is_match(region: &[u8], name: &[u8], yes: &mut u64) -> u64
-    ensures { Tells of_matched (AsksKnown region.now name.now) (result at (λ x. x.now) yes.exit) }
+    ensures { Tells of_matched (AsksKnown region.now name.now) (result at yes.new) }
 {
     tell_matched(trie::is_match_known(region, name), yes)
 }
@@ -48,7 +48,7 @@ pub extern "C" fn cjumbradi_known_listing(
     bytes: &mut u64,
     records: &mut u64,
 ) -> u64
-    ensures { Tells of_listed (ListsKnown region.now name.now out.old out.new) (result at (λ x. x.now) bytes.exit, records.new) }
+    ensures { Tells of_listed (ListsKnown region.now name.now out.old out.new) (result at bytes.new, records.new) }
 {
     tell_listed(trie::matches_known(region, name, out), bytes, records)
 }

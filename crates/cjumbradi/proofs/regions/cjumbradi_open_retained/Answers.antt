@@ -1,0 +1,8 @@
+-- `cjumbradi::regions::cjumbradi_open_retained` meets its contract. Assumes nothing.
+use Rattle.region.specs.declared.Kind.TheVariants.{Retained}
+use Rattle.cjumbradi.proofs.Openings.{opened-told}
+use Rattle.cjumbradi.proofs.regions.cjumbradi_open_retained.Goals as goal
+
+pub returns : goal.returns
+returns c =
+    opened-told c.capacities.ensures Retained c.args.region.now c.tell_checked.ensures c.open-opened.ensures.0 c.open-opened.ensures.1
