@@ -5,4 +5,5 @@ use Rattle.cjumbradi.proofs.regions.cjumbradi_open_subscriptions.Goals as goal
 
 pub returns : goal.returns
 returns c =
-    opened-told c.capacities.ensures Subscriptions c.args.region.now c.tell_checked.ensures c.open-opened.ensures.0 c.open-opened.ensures.1
+    let both = opened-told c.capacities.ensures Subscriptions c.args.region.now c.tell_checked.ensures c.open-opened.ensures.value c.open-opened.ensures.region_after in
+    record { place_value = both.0; region_after = both.1 }
