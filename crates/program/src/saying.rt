@@ -1,5 +1,5 @@
 // How the programs print: texts, numbers, bad lines and refusals. The first write that fails is the error.
-ghost use Rattle.std.specs.Prelude.{OnOk};
+ghost use Rattle.std.specs.Prelude.{OnOk, decimal};
 ghost use Rattle.std.specs.Io.KnownBytes.{Appends};
 
 use refusal::Refusal;
@@ -13,7 +13,9 @@ pub fn say<W: Write>(output: &mut W, text: &[u8]) -> io::Result<()>
     output.write_all(text)
 }
 
-pub fn say_number<W: Write>(output: &mut W, n: u64) -> io::Result<()> {
+pub fn say_number<W: Write>(output: &mut W, n: u64) -> io::Result<()>
+    ensures { OnOk result (Appends (W.contents output.old) (W.contents output.new) (decimal n)) }
+{
     write!(output, "{n}")
 }
 
