@@ -1,76 +1,104 @@
 // Standard input, line by line. A line has at most 4,096 bytes before its newline; a longer one is one bad line. The last line may
 // lack its newline.
-ghost use Rattle.std.specs.Prelude.{◌≡◌, ◌≤◌, length};
+ghost use Rattle.std.specs.Prelude.{◌≡◌, ◌≤◌, IfOk, length};
 
 use crate::answers;
-use libc::STDIN_FILENO;
+use std::io;
+use std::io::{Read, Write};
 
 const LONGEST: usize = 4096;
 
 // A line that has ended, of which so many bytes have come: more than LONGEST where it is too long.
-fn end_line(store: &mut [u8], room: &mut [u8], line: &[u8], come: usize)
+fn end_line<W: Write>(
+    output: &mut W,
+    store: &mut [u8],
+    room: &mut [u8],
+    line: &[u8],
+    come: usize,
+) -> io::Result<()>
     requires { length line.now ≡ 4096 }
 {
     if LONGEST < come {
-        return program::bad_line();
+        return program::bad_line(output);
     }
-    answers::answer(store, &line[..come], room);
+    answers::answer(output, store, &line[..come], room)
 }
 
 // One byte more; answers how many bytes of the line have come.
-fn take_byte(store: &mut [u8], room: &mut [u8], line: &mut [u8], come: usize, byte: u8) -> usize
+fn take_byte<W: Write>(
+    output: &mut W,
+    store: &mut [u8],
+    room: &mut [u8],
+    line: &mut [u8],
+    come: usize,
+    byte: u8,
+) -> io::Result<usize>
     requires { (length line.old ≡ 4096) × (come ≤ 4097) }
-    ensures { (length line.new ≡ 4096) × (result ≤ 4097) }
+    ensures kept { length line.new ≡ 4096 }
+    ensures most { IfOk result (λ n. n ≤ 4097) }
 {
     if byte == b'\n' {
-        end_line(store, room, line, come);
-        return 0;
+        end_line(output, store, room, line, come)?;
+        return Ok(0);
     }
     if LONGEST <= come {
-        return LONGEST + 1;
+        return Ok(LONGEST + 1);
     }
     line[come] = byte;
-    come + 1
+    Ok(come + 1)
 }
 
 // The bytes that were read.
-fn take_all(store: &mut [u8], room: &mut [u8], line: &mut [u8], come: usize, bytes: &[u8]) -> usize
+fn take_all<W: Write>(
+    output: &mut W,
+    store: &mut [u8],
+    room: &mut [u8],
+    line: &mut [u8],
+    come: usize,
+    bytes: &[u8],
+) -> io::Result<usize>
     requires { (length line.old ≡ 4096) × (come ≤ 4097) }
-    ensures { (length line.new ≡ 4096) × (result ≤ 4097) }
+    ensures kept { length line.new ≡ 4096 }
+    ensures most { IfOk result (λ n. n ≤ 4097) }
 {
     let mut now_come = come;
     let mut i = 0;
     while i < bytes.len() {
-        now_come = take_byte(store, room, line, now_come, bytes[i]);
+        now_come = take_byte(output, store, room, line, now_come, bytes[i])?;
         i += 1;
     }
-    now_come
+    Ok(now_come)
 }
 
 // Reads what there is, and answers how many bytes came.
-fn read_some(chunk: &mut [u8]) -> usize
-    ensures { result ≤ length chunk.new }
+fn read_some<R: Read>(input: &mut R, chunk: &mut [u8]) -> io::Result<usize>
+    ensures { IfOk result (λ n. n ≤ length chunk.new) }
 {
-    let got = libc::read(STDIN_FILENO, chunk);
-    io::count(got, chunk)
+    input.read(chunk)
 }
 
 // A proved loop has to end, and nothing says that the input does. So the loop counts its turns down, from a number that no run
 // uses up.
-pub fn run(store: &mut [u8], room: &mut [u8]) {
+pub fn run<R: Read, W: Write>(
+    input: &mut R,
+    output: &mut W,
+    store: &mut [u8],
+    room: &mut [u8],
+) -> io::Result<()> {
     let mut line: [u8; 4096] = [0; 4096];
     let mut chunk: [u8; 4096] = [0; 4096];
     let mut come: usize = 0;
     let mut turns = u64::MAX;
     while turns > 0 {
-        let n = read_some(&mut chunk);
+        let n = read_some(input, &mut chunk)?;
         if n == 0 {
             break;
         }
-        come = take_all(store, room, &mut line, come, &chunk[..n]);
+        come = take_all(output, store, room, &mut line, come, &chunk[..n])?;
         turns -= 1;
     }
     if 0 < come {
-        end_line(store, room, &line, come);
+        end_line(output, store, room, &line, come)?;
     }
+    Ok(())
 }

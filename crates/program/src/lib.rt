@@ -1,10 +1,14 @@
-// What the programs share: printing to standard output, records too, the words of a line, and decimal numbers.
+// What the programs share: printing to a writer, records too, reading into a buffer, the words of a line, and decimal numbers.
+#![tactic(auto)]
+
 mod numbers;
+mod reading;
 mod records;
 mod saying;
 mod words;
 
 pub use numbers::{number_of, small_of};
+pub use reading::read_full;
 pub use records::{say_listing, say_lookup};
 pub use saying::{bad_line, say, say_checked, say_number, say_refusal};
 pub use words::{after_word, find, first_word};

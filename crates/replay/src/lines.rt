@@ -2,18 +2,20 @@
 use crate::{names, subscriptions, tests, texts};
 use program::{after_word, bad_line, find, first_word, say};
 use region::{Capacities, Cells, Kind, Nodes, Pairs};
+use std::io;
+use std::io::Write;
 use topic::Checked;
 
 // Makes the store an empty one.
-fn open(store: &mut [u8], kind: Kind) {
+fn open<W: Write>(output: &mut W, store: &mut [u8], kind: Kind) -> io::Result<()> {
     let most = Capacities {
         nodes: Nodes(2048),
         pairs: Pairs(512),
         cells: Cells(4096),
     };
     match region::open(store, kind, most) {
-        Checked::Accepted => say(b"opened\n"),
-        Checked::Refused(_) => bad_line(),
+        Checked::Accepted => say(output, b"opened\n"),
+        Checked::Refused(_) => bad_line(output),
     }
 }
 
@@ -26,53 +28,54 @@ fn kind_of(word: &[u8]) -> Kind {
 }
 
 // Makes a call that changes the store.
-fn change(store: &mut [u8], call: &[u8], words: &[u8]) {
+fn change<W: Write>(output: &mut W, store: &mut [u8], call: &[u8], words: &[u8]) -> io::Result<()> {
     if level::same_bytes(call, b"insert") {
-        return subscriptions::insert(store, words);
+        return subscriptions::insert(output, store, words);
     }
     if level::same_bytes(call, b"remove") {
-        return subscriptions::remove(store, words);
+        return subscriptions::remove(output, store, words);
     }
     if level::same_bytes(call, b"set") {
-        return names::set(store, words);
+        return names::set(output, store, words);
     }
     if level::same_bytes(call, b"sweep") {
-        return names::sweep(store, words);
+        return names::sweep(output, store, words);
     }
     if level::same_bytes(call, b"open") {
-        return open(store, kind_of(words));
+        return open(output, store, kind_of(words));
     }
-    bad_line();
+    bad_line(output)
 }
 
 // Makes the call, if it changes nothing.
-fn ask(store: &[u8], call: &[u8], words: &[u8]) -> bool {
-    if texts::answer(call, words) {
-        return true;
+fn ask<W: Write>(output: &mut W, store: &[u8], call: &[u8], words: &[u8]) -> io::Result<bool> {
+    if texts::answer(output, call, words)? {
+        return Ok(true);
     }
-    if tests::answer(call, words) {
-        return true;
+    if tests::answer(output, call, words)? {
+        return Ok(true);
     }
-    if subscriptions::answer(store, call, words) {
-        return true;
+    if subscriptions::answer(output, store, call, words)? {
+        return Ok(true);
     }
-    names::answer(store, call, words)
+    names::answer(output, store, call, words)
 }
 
-fn answer(store: &mut [u8], line: &[u8]) {
+fn answer<W: Write>(output: &mut W, store: &mut [u8], line: &[u8]) -> io::Result<()> {
     let call = first_word(line);
     let words = after_word(line);
-    if ask(store, call, words) {
-        return;
+    if ask(output, store, call, words)? {
+        return Ok(());
     }
-    change(store, call, words);
+    change(output, store, call, words)
 }
 
-pub fn run(input: &[u8], store: &mut [u8]) {
+pub fn run<W: Write>(output: &mut W, input: &[u8], store: &mut [u8]) -> io::Result<()> {
     let mut at = 0;
     while at < input.len() {
         let end = find(input, b'\n', at);
-        answer(store, &input[at..end]);
+        answer(output, store, &input[at..end])?;
         at = end + 1;
     }
+    Ok(())
 }

@@ -6,6 +6,8 @@ use program::{
     small_of,
 };
 use retain::{Moment, Names, Paged};
+use std::io;
+use std::io::Write;
 
 // `never`, or a moment.
 fn moment_of(word: &[u8]) -> Moment {
@@ -16,92 +18,103 @@ fn moment_of(word: &[u8]) -> Moment {
 }
 
 // A payload's length, a handle, a moment or `never`, and a name.
-pub fn set(store: &mut [u8], words: &[u8]) {
+pub fn set<W: Write>(output: &mut W, store: &mut [u8], words: &[u8]) -> io::Result<()> {
     let Number::Value(payload) = number_of(first_word(words)) else {
-        return bad_line();
+        return bad_line(output);
     };
     let rest = after_word(words);
     let Small::Value(handle) = small_of(first_word(rest)) else {
-        return bad_line();
+        return bad_line(output);
     };
     let last = after_word(rest);
     let moment = moment_of(first_word(last));
-    say_changed(retain::set(store, after_word(last), payload, handle, moment));
+    say_changed(
+        output,
+        retain::set(store, after_word(last), payload, handle, moment),
+    )
 }
 
 // A clock.
-pub fn sweep(store: &mut [u8], words: &[u8]) {
+pub fn sweep<W: Write>(output: &mut W, store: &mut [u8], words: &[u8]) -> io::Result<()> {
     let Number::Value(clock) = number_of(words) else {
-        return bad_line();
+        return bad_line(output);
     };
-    say_changed(retain::remove_expired(store, clock));
+    say_changed(output, retain::remove_expired(store, clock))
 }
 
 // A clock, and a filter.
-fn lookup(store: &[u8], words: &[u8]) {
-    let mut room = io::large_buffer();
+fn lookup<W: Write>(output: &mut W, store: &[u8], words: &[u8]) -> io::Result<()> {
+    let mut room: [u8; 65536] = [0; 65536];
     let Number::Value(clock) = number_of(first_word(words)) else {
-        return bad_line();
+        return bad_line(output);
     };
     match retain::get(store, after_word(words), clock, &mut room) {
-        Listed::Given { bytes, records } => say_lookup(&room, bytes, records, b"; "),
-        Listed::Refused(_) => say_refused(),
+        Listed::Given { bytes, records } => say_lookup(output, &room, bytes, records, b"; "),
+        Listed::Refused(_) => say_refused(output),
     }
 }
 
 // How many records a page has, and whether more follow.
-fn say_paged(paged: Paged) {
+fn say_paged<W: Write>(output: &mut W, paged: Paged) -> io::Result<()> {
     let Paged::Given {
         bytes: _,
         records,
         more,
     } = paged
     else {
-        return say_refused();
+        return say_refused(output);
     };
-    say_number(records as u64);
+    say_number(output, records as u64)?;
     if more {
-        return say(b" more\n");
+        return say(output, b" more\n");
     }
-    say(b" no more\n");
+    say(output, b" no more\n")
 }
 
 // A clock, how many records are skipped, and how many are given at most.
-fn page(store: &[u8], words: &[u8]) {
-    let mut room = io::large_buffer();
+fn page<W: Write>(output: &mut W, store: &[u8], words: &[u8]) -> io::Result<()> {
+    let mut room: [u8; 65536] = [0; 65536];
     let Number::Value(clock) = number_of(first_word(words)) else {
-        return bad_line();
+        return bad_line(output);
     };
     let rest = after_word(words);
     let Number::Value(offset) = number_of(first_word(rest)) else {
-        return bad_line();
+        return bad_line(output);
     };
     let Number::Value(limit) = number_of(after_word(rest)) else {
-        return bad_line();
+        return bad_line(output);
     };
-    say_paged(retain::get_all_paginated(store, clock, offset, limit, &mut room));
+    say_paged(
+        output,
+        retain::get_all_paginated(store, clock, offset, limit, &mut room),
+    )
 }
 
-fn count(store: &[u8]) {
+fn count<W: Write>(output: &mut W, store: &[u8]) -> io::Result<()> {
     match retain::count(store) {
-        Names::Held(names) => say_last(names.0),
-        Names::Refused(_) => say_refused(),
+        Names::Held(names) => say_last(output, names.0),
+        Names::Refused(_) => say_refused(output),
     }
 }
 
 // Makes the call, if it is one of these and changes nothing.
-pub fn answer(store: &[u8], call: &[u8], words: &[u8]) -> bool {
+pub fn answer<W: Write>(
+    output: &mut W,
+    store: &[u8],
+    call: &[u8],
+    words: &[u8],
+) -> io::Result<bool> {
     if level::same_bytes(call, b"lookup") {
-        lookup(store, words);
-        return true;
+        lookup(output, store, words)?;
+        return Ok(true);
     }
     if level::same_bytes(call, b"page") {
-        page(store, words);
-        return true;
+        page(output, store, words)?;
+        return Ok(true);
     }
     if level::same_bytes(call, b"count") {
-        count(store);
-        return true;
+        count(output, store)?;
+        return Ok(true);
     }
-    false
+    Ok(false)
 }

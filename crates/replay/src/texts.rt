@@ -3,92 +3,94 @@ use crate::saying::{say_last, say_refused, say_yes};
 use level::Kind;
 use program::{Number, after_word, bad_line, first_word, number_of, say, say_number};
 use refusal::Refusal;
+use std::io;
+use std::io::Write;
 use topic::{Matched, Parsed};
 
 // The Rust tells the two faults of parsing apart, and names the level that is bad.
-fn say_fault(refusal: Refusal) {
-    say(b"refused ");
-    say_number(refusal::number(refusal));
+fn say_fault<W: Write>(output: &mut W, refusal: Refusal) -> io::Result<()> {
+    say(output, b"refused ")?;
+    say_number(output, refusal::number(refusal))?;
     if refusal::number(refusal) == 6 {
-        say(b" at ");
-        say_number(refusal::place(refusal));
+        say(output, b" at ")?;
+        say_number(output, refusal::place(refusal))?;
     }
-    say(b"\n");
+    say(output, b"\n")
 }
 
-fn parse(text: &[u8]) {
+fn parse<W: Write>(output: &mut W, text: &[u8]) -> io::Result<()> {
     match topic::parse(text) {
         Parsed::Levels { count } => {
-            say(b"levels ");
-            say_last(count as u64);
+            say(output, b"levels ")?;
+            say_last(output, count as u64)
         }
-        Parsed::Refused(refusal) => say_fault(refusal),
+        Parsed::Refused(refusal) => say_fault(output, refusal),
     }
 }
 
-fn say_kind(kind: Kind) {
+fn say_kind<W: Write>(output: &mut W, kind: Kind) -> io::Result<()> {
     match kind {
-        Kind::None => say(b"none\n"),
-        Kind::Normal => say(b"normal\n"),
-        Kind::Metadata => say(b"metadata\n"),
-        Kind::Blank => say(b"blank\n"),
-        Kind::SingleWildcard => say(b"single wildcard\n"),
-        Kind::MultiWildcard => say(b"multi wildcard\n"),
+        Kind::None => say(output, b"none\n"),
+        Kind::Normal => say(output, b"normal\n"),
+        Kind::Metadata => say(output, b"metadata\n"),
+        Kind::Blank => say(output, b"blank\n"),
+        Kind::SingleWildcard => say(output, b"single wildcard\n"),
+        Kind::MultiWildcard => say(output, b"multi wildcard\n"),
     }
 }
 
 // The number of a level, and the text.
-fn level_kind(words: &[u8]) {
+fn level_kind<W: Write>(output: &mut W, words: &[u8]) -> io::Result<()> {
     let Number::Value(k) = number_of(first_word(words)) else {
-        return bad_line();
+        return bad_line(output);
     };
-    say_kind(topic::level_kind(after_word(words), k as usize));
+    say_kind(output, topic::level_kind(after_word(words), k as usize))
 }
 
 // The number of a level, and the text.
-fn level_part(words: &[u8]) {
+fn level_part<W: Write>(output: &mut W, words: &[u8]) -> io::Result<()> {
     let Number::Value(k) = number_of(first_word(words)) else {
-        return bad_line();
+        return bad_line(output);
     };
-    say(b"'");
-    say(topic::level_part(after_word(words), k as usize));
-    say(b"'\n");
+    say(output, b"'")?;
+    say(output, topic::level_part(after_word(words), k as usize))?;
+    say(output, b"'\n")
 }
 
-pub fn say_matched(matched: Matched) {
+pub fn say_matched<W: Write>(output: &mut W, matched: Matched) -> io::Result<()> {
     match matched {
-        Matched::Yes => say_yes(true),
-        Matched::No => say_yes(false),
-        Matched::Refused(_) => say_refused(),
+        Matched::Yes => say_yes(output, true),
+        Matched::No => say_yes(output, false),
+        Matched::Refused(_) => say_refused(output),
     }
 }
 
 // A filter, and a name. The Rust has two functions for this, and the library one call.
-fn matches(words: &[u8]) {
-    say_matched(topic::matches(first_word(words), after_word(words)));
+fn matches<W: Write>(output: &mut W, words: &[u8]) -> io::Result<()> {
+    say_matched(output, topic::matches(first_word(words), after_word(words)))
 }
 
 // Makes the call, if it is one of these.
-pub fn answer(call: &[u8], words: &[u8]) -> bool {
+pub fn answer<W: Write>(output: &mut W, call: &[u8], words: &[u8]) -> io::Result<bool> {
     if level::same_bytes(call, b"parse") {
-        parse(words);
-        return true;
+        parse(output, words)?;
+        return Ok(true);
     }
     if level::same_bytes(call, b"level_kind") {
-        level_kind(words);
-        return true;
+        level_kind(output, words)?;
+        return Ok(true);
     }
     if level::same_bytes(call, b"level_part") {
-        level_part(words);
-        return true;
+        level_part(output, words)?;
+        return Ok(true);
     }
     if level::same_bytes(call, b"matches") {
-        matches(words);
-        return true;
+        matches(output, words)?;
+        return Ok(true);
     }
     if level::same_bytes(call, b"matches_str") {
-        matches(words);
-        return true;
+        matches(output, words)?;
+        return Ok(true);
     }
-    false
+    Ok(false)
 }
