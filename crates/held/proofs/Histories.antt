@@ -3,19 +3,19 @@ use mathlib.Core.Path.{◌≡◌, refl, sym, ap, ◌∙◌}
 use Prim.Native.Nat.{ℕ, zero, suc}
 use mathlib.Core.Bool.{Bool, true, false, not, cond}
 use mathlib.Core.List.{List, [], ◌∷◌}
-use mathlib.Core.Option.{Option, none, some}
+use mathlib.Core.Option.{none, some}
 use borrow.Author.Tests.{not-true}
 use Rattle.level.proofs.Join.{join-split}
 use Rattle.level.specs.Levels.{split, join}
 use Rattle.topic.specs.Answers.{checked}
-use Rattle.topic.specs.Rules.{Rule, name_rules, filter_rules}
-use Rattle.held.specs.Ascending.{All, passed}
+use Rattle.topic.specs.Rules.{name_rules, filter_rules}
+use Rattle.held.specs.Ascending.{All}
 use Rattle.held.specs.Order.{Filter, same_filter, same_pair}
 use Rattle.held.specs.Room.{Room}
 use Rattle.held.specs.History.{verdict, accepted, result, Kind, run, in_turn, for_room, has_room}
 use Rattle.held.specs.Subscriptions.{Pair, AscPairs, is_held, insert_held, remove_held, Call, insert, remove, insert_rules, subscriptions, pair_of, calls_of, SameCalls, listing_bytes}
 use Rattle.held.specs.Caught.{said}
-use Rattle.held.specs.Retained.{Stored, Named, AscNames, has_filter, stored, set_held, erase_held, unexpired, Call as Change, set, sweep, set_rules, retained, about, calls_of as changesOf, SameCalls as SameChanges, lookup_bytes, page_bytes}
+use Rattle.held.specs.Retained.{Stored, Named, AscNames, has_filter, stored, set_held, erase_held, Call as Change, set, sweep, set_rules, retained, about, calls_of as changesOf, SameCalls as SameChanges, lookup_bytes, page_bytes}
 use Rattle.held.specs.Found.{said as told}
 use Rattle.held.proofs.Orders.{and_left, and_right, same_sym, filter_order, pair_order}
 use Rattle.held.proofs.HeldLaws.{held_insert, held_remove, pairs_insert, pairs_remove, pairs_settled, names_settled, names-set, names_erase, names_sweep, stored-set, stored_erase, stored_sweep}

@@ -1,6 +1,6 @@
 -- TO BELIEVE. The course's question, asked of a history of calls: which subscriptions catch a name, and why? Those whose last call
 -- with an accepted text is an insert, and whose filter takes the name by MQTT 4.7. Assumes nothing.
-use Rattle.std.specs.Prelude.{◌≡◌, ℕ, Bool, true, false, cond, ◌&&◌, List, [], ◌∷◌, eqb, length}
+use Rattle.std.specs.Prelude.{◌≡◌, ℕ, Bool, true, false, cond, ◌&&◌, List, [], eqb, length}
 use Rattle.level.specs.Levels.{split}
 use Rattle.topic.specs.Rules.{filter_rules}
 use Rattle.topic.specs.Answers.{checked}

@@ -4,7 +4,6 @@ use native.Mathlib.Omega.{arith}
 use mathlib.Core.Path.{sym, ◌∙◌}
 use Rattle.walk.proofs.NodeLaws.{node_below}
 use Rattle.listing.proofs.ListingLaws.{trail_room, trail-plus, trail_level, not_walked, walked_end, walked_deep, walked_on}
-use borrow.Fn.PlainCycle.{is}
 use Rattle.listing.proofs.writing.+write_walk.Goals as goal
 
 pub returns-in_default : goal.returns-in_default

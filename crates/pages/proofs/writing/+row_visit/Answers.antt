@@ -4,7 +4,6 @@ use Rattle.pages.proofs.NodeLaws.{trail_down, node_written, node_shut, node_belo
 use Rattle.pages.proofs.RowLaws.{row_begin, row_hidden, row_visited, row_written}
 use Rattle.lookup.proofs.TurnLaws.{row_ready, node_in}
 use borrow.Author.Rules.{rules}
-use Rattle.pages.proofs.writing.row.Reads as row
 use Rattle.pages.proofs.writing.+row_visit.Goals as goal
 
 pub row-loop-i-init : goal.row-loop-i-init
