@@ -13,7 +13,7 @@ use Rattle.held.specs.History.{run}
 use Rattle.held.specs.Retained.{Stored, Named, retained, Call as Change, unexpired, has_filter, stored, sweep_held, lookup, lookup_bytes}
 use Rattle.held.specs.Found.{retained_for}
 use Rattle.held.specs.Caught.{subscribed}
-use Rattle.held.specs.Subscriptions.{Pair, Call, is_held, listing, listing_bytes}
+use Rattle.held.specs.Subscriptions.{Call, is_held, listing, listing_bytes}
 use Rattle.held.proofs.Names.{well_names}
 use Rattle.held.proofs.Stores.{is_some}
 use Rattle.held.proofs.HeldLaws.{stored_sweep, has-stored, pair-filter, stores_agree}

@@ -1,7 +1,7 @@
 -- The header of a region whose counts are moved. Assumes nothing.
 use mathlib.Core.Path.{◌≡◌, sym, ap, ◌∙◌}
 use mathlib.Core.List.{List, ◌∷◌, ◌++◌, append_assoc}
-use Prim.Native.Nat.{ℕ, ◌+◌, ◌-◌, ◌≤◌, ◌<◌}
+use Prim.Native.Nat.{ℕ, ◌≤◌, ◌<◌}
 use lib.ListN.{length, drop, length-append}
 use Rattle.lent.specs.Numbers.{bytes}
 use Rattle.lent.specs.Parts.{part}

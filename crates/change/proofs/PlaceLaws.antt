@@ -6,7 +6,7 @@ use Prim.Native.Nat.{ℕ, zero, suc, ◌+◌, ◌-◌, ◌*◌, ◌≤◌, ◌<�
 use native.Mathlib.Omega.{arith}
 use native.Mathlib.Nat.{add_comm, zero-add}
 use lib.ListN.{length, replicate, length-append, length-replicate}
-use Rattle.lent.specs.Total.{Framed, write}
+use Rattle.lent.specs.Total.{Framed}
 use Rattle.lent.proofs.Parts.{framed_trans}
 use Rattle.held.specs.Order.{Level, Filter}
 use Rattle.held.specs.Bytes.{each}

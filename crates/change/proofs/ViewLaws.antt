@@ -7,7 +7,7 @@ use lib.ListN.{length, take, drop, length-append, length-take, length-drop, take
 use lib.Seq.{take_at, drop_at, drop-drop}
 use Rattle.lent.specs.Numbers.{bytes}
 use Rattle.lent.specs.Parts.{part, patch}
-use Rattle.lent.specs.Total.{Framed, write, opened, closed}
+use Rattle.lent.specs.Total.{Framed, opened, closed}
 use Rattle.lent.proofs.Parts.{part-eq, length_part, framed_trans, framed_before, framed_after, framed_wider}
 use Rattle.lent.proofs.Digits.{length-bytes}
 use Rattle.held.specs.Order.{Level}

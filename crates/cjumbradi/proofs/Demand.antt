@@ -4,13 +4,12 @@
 use mathlib.Core.Path.{◌≡◌, refl, sym, ap, subst, ◌∙◌}
 use Prim.Native.Nat.{ℕ, ◌≤◌}
 use mathlib.Core.Bool.{Bool, true, false, not, cond, ◌||◌, true≢false}
-use mathlib.Core.List.{List, [], ◌∷◌}
+use mathlib.Core.List.{List}
 use mathlib.Core.Option.{some}
 use lib.Dec.{eqb, ltb}
 use lib.ListN.{length}
-use borrow.Author.Tests.{not-true, ltb-false}
-use Rattle.refusal.specs.Refusals.{Told, ◌at◌, told}
-use Rattle.refusal.specs.declared.Refusal.{Refusal}
+use borrow.Author.Tests.{ltb-false}
+use Rattle.refusal.specs.Refusals.{Told, ◌at◌}
 use Rattle.refusal.specs.declared.Refusal.TheVariants.{BadSize}
 use Rattle.lent.specs.Parts.{part, patch}
 use Rattle.level.specs.Levels.{split}
@@ -31,7 +30,7 @@ use Rattle.edit.specs.declared.Changed.{Changed}
 use Rattle.edit.specs.declared.Changed.TheVariants.{Done, Refused}
 use Rattle.edit.specs.declared.Listed.{Listed}
 use Rattle.edit.specs.declared.Listed.TheVariants.{Given, Refused as NotGiven}
-use Rattle.edit.specs.Calls.{StoreKind, Calls, Does}
+use Rattle.edit.specs.Calls.{StoreKind}
 use Rattle.edit.specs.Runs.{refused_for_room, Runs, Empty}
 use Rattle.edit.specs.Runs.{ended as run-ended, called as run-called}
 use Rattle.edit.specs.Given.{given_bytes, enough_room}
