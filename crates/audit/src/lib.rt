@@ -9,7 +9,7 @@ mod written;
 pub use whole::is_store;
 
 // What the header promises and the rows passed have not had: nodes, pairs and cells.
-#[derive(Drop)]
+#[derive(Clone, Copy)]
 pub struct Left {
     pub nodes: usize,
     pub pairs: usize,
@@ -17,7 +17,7 @@ pub struct Left {
 }
 
 // What the pass over some rows finds: they are sound, and so much is left; or they are not.
-#[derive(Drop)]
+#[derive(Clone, Copy)]
 pub enum Tally {
     Sound(Left),
     Unsound,

@@ -12,14 +12,14 @@ use refusal::Refusal;
 pub use taking::{is_alone, take_path, take_unit};
 
 // What a change answers: a number, or the refusal.
-#[derive(Drop)]
+#[derive(Clone, Copy)]
 pub enum Changed {
     Done(u64),
     Refused(Refusal),
 }
 
 // What a listing or a lookup answers: how many bytes and records it has, or the refusal.
-#[derive(Drop)]
+#[derive(Clone, Copy)]
 pub enum Listed {
     Given { bytes: usize, records: usize },
     Refused(Refusal),

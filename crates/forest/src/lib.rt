@@ -11,7 +11,7 @@ pub use levels::compare;
 pub use rows::{level_at, row_at};
 
 // A node's row of units: the length of its level, how many it holds, the unit behind it, and the unit behind all below it.
-#[derive(Drop)]
+#[derive(Clone, Copy)]
 pub struct Row {
     pub len: usize,
     pub own: usize,
@@ -20,7 +20,7 @@ pub struct Row {
 }
 
 // How two levels stand in a row.
-#[derive(Drop)]
+#[derive(Clone, Copy)]
 pub enum Order {
     Less,
     Equal,

@@ -10,7 +10,7 @@ use region::{Capacities, Cells, Kind, Nodes, Pairs};
 use std::io;
 
 // A line: a value with the place where the filter begins, or the place where the name begins.
-#[derive(Drop)]
+#[derive(Clone, Copy)]
 pub enum Command {
     Sub { value: u32, at: usize },
     Unsub { value: u32, at: usize },

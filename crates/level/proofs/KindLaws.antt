@@ -54,6 +54,9 @@ wild_other l i h p q =
     let b : eqb (get_or l i 0) 35 ≡ false = ne_eqb _ _ q in
     rw (add-one, drop-cons l i 0 h, a, b)
 
+-- the laws by which a loop over bytes looks for wildcards
+pub ruleset wild_laws = (wild-plus, wild-hash, wild_other)
+
 pub wild_end : (l : List ℕ) (i : ℕ) → length l ≤ i → wild (drop i l) ≡ false
 wild_end l i h = rw (drop_of_length-le l h)
 

@@ -7,7 +7,7 @@ ghost use Rattle.level.specs.Kinds.{is_only, wild, dollar, bad, same, kind_of};
 ghost use Rattle.level.specs.Places.{first, end_of};
 
 // What a level is; None where there is no such level.
-#[derive(Drop)]
+#[derive(Clone, Copy)]
 pub enum Kind {
     None,
     Normal,
@@ -116,6 +116,7 @@ pub fn has_byte(bytes: &[u8], byte: u8) -> bool
 }
 
 // A '+' or a '#' is among the bytes.
+#[tactic(auto, using(crate::proofs::KindLaws::wild_laws))]
 pub fn has_wildcard(bytes: &[u8]) -> bool
     ensures { result ≡ wild bytes.now }
 {

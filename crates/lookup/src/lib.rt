@@ -25,7 +25,7 @@ pub struct Query {
 }
 
 // What a lookup takes: the bytes and number of the records in its page, and the number of all its records.
-#[derive(Drop)]
+#[derive(Clone, Copy)]
 pub struct Found {
     pub bytes: usize,
     pub records: usize,
@@ -33,14 +33,14 @@ pub struct Found {
 }
 
 // What was passed so far: the bytes of the records in the page, and the number of all.
-#[derive(Drop)]
+#[derive(Clone, Copy)]
 pub struct Tally {
     pub bytes: usize,
     pub total: usize,
 }
 
 // A record: it has expired, or has so many ms left; 0 where it has no moment.
-#[derive(Drop)]
+#[derive(Clone, Copy)]
 pub enum Life {
     Over,
     Left(u64),
@@ -56,7 +56,7 @@ struct Step {
 }
 
 // Units of a row, from one up to another.
-#[derive(Drop)]
+#[derive(Clone, Copy)]
 struct Span {
     lo: usize,
     hi: usize,
@@ -64,7 +64,7 @@ struct Span {
 
 // How a row is walked: in the units from one up to another, with the levels of the filter from a place on for what is below it,
 // and with names that begin with '$' barred or not.
-#[derive(Drop)]
+#[derive(Clone, Copy)]
 pub struct Along {
     pub lo: usize,
     pub hi: usize,

@@ -22,7 +22,7 @@ pub struct Ask {
 }
 
 // How far the writing has come: the place in the buffer, and the number of the next record.
-#[derive(Drop)]
+#[derive(Clone, Copy)]
 pub struct Spot {
     pub at: usize,
     pub number: usize,

@@ -14,14 +14,14 @@ pub use saying::{bad_line, say, say_checked, say_number, say_refusal};
 pub use words::{after_word, find, first_word};
 
 // A decimal u64.
-#[derive(Drop)]
+#[derive(Clone, Copy)]
 pub enum Number {
     Value(u64),
     Not,
 }
 
 // A decimal u32.
-#[derive(Drop)]
+#[derive(Clone, Copy)]
 pub enum Small {
     Value(u32),
     Not,

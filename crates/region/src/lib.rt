@@ -43,14 +43,14 @@ pub struct Capacities {
 }
 
 // How many bytes a region needs.
-#[derive(Drop)]
+#[derive(Clone, Copy)]
 pub enum Size {
     Bytes(u64),
     Refused(Refusal),
 }
 
 // The units of a region: where they begin, how many are in use, and how many there is room for; or the header is no store's.
-#[derive(Drop)]
+#[derive(Clone, Copy)]
 pub enum Shape {
     Units {
         base: usize,

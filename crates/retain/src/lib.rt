@@ -18,14 +18,14 @@ use refusal::Refusal;
 use region::Pairs;
 
 // When a record expires, in milliseconds of the caller's clock; or never.
-#[derive(Drop)]
+#[derive(Clone, Copy)]
 pub enum Moment {
     Never,
     At(u64),
 }
 
 // What a page answers: how many bytes and records it has and whether more follows, or the refusal.
-#[derive(Drop)]
+#[derive(Clone, Copy)]
 pub enum Paged {
     Given {
         bytes: usize,
@@ -36,14 +36,14 @@ pub enum Paged {
 }
 
 // The names that a store holds, or why there are none to tell.
-#[derive(Drop)]
+#[derive(Clone, Copy)]
 pub enum Names {
     Held(Pairs),
     Refused(Refusal),
 }
 
 // The unit of a node's record, if it has one, else the unit before which it would go; and whether the node's row is a store's.
-#[derive(Drop)]
+#[derive(Clone, Copy)]
 pub struct Slot {
     pub at: usize,
     pub held: bool,

@@ -14,7 +14,7 @@ pub use make::{make_chain, make_unit};
 pub use take::{take_chain, take_unit};
 
 // What something takes of a region: nodes, pairs, text cells, and units.
-#[derive(Drop)]
+#[derive(Clone, Copy)]
 pub struct Load {
     pub nodes: usize,
     pub pairs: usize,

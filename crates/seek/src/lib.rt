@@ -11,7 +11,7 @@ pub use children::find_child;
 pub use paths::find_path;
 
 // A child of a row: its first unit, the unit behind its row, and the unit behind all below it; or the unit where it would go.
-#[derive(Drop)]
+#[derive(Clone, Copy)]
 pub enum Child {
     At {
         node: usize,
@@ -24,7 +24,7 @@ pub enum Child {
 }
 
 // Where a search looks next: the first unit of a sibling, a unit that it holds, and how many siblings are passed before the row is halved.
-#[derive(Drop)]
+#[derive(Clone, Copy)]
 struct Probe {
     node: usize,
     mid: usize,
@@ -33,7 +33,7 @@ struct Probe {
 
 // The nodes of a path, as far as they are there: the first unit of each, and how many; where the first that is missing would go,
 // and where in the text its level begins. Where all are there: the unit behind the last one's row, and one more than the text's length.
-#[derive(Drop)]
+#[derive(Clone, Copy)]
 pub struct Path {
     pub nodes: [usize; 128],
     pub depth: usize,

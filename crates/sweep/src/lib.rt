@@ -19,7 +19,7 @@ pub struct Kept {
 }
 
 // What stays of one row: the units of its head and level, its record or none, and the cells of its level.
-#[derive(Drop)]
+#[derive(Clone, Copy)]
 pub struct Stay {
     pub units: usize,
     pub own: usize,

@@ -15,21 +15,21 @@ use refusal::Refusal;
 pub use validity::{is_valid_subscription_filter, is_valid_topic_filter, is_valid_topic_name};
 
 // What a test of a text answers.
-#[derive(Drop)]
+#[derive(Clone, Copy)]
 pub enum Checked {
     Accepted,
     Refused(Refusal),
 }
 
 // What parsing answers.
-#[derive(Drop)]
+#[derive(Clone, Copy)]
 pub enum Parsed {
     Levels { count: usize },
     Refused(Refusal),
 }
 
 // Whether a filter takes a name.
-#[derive(Drop)]
+#[derive(Clone, Copy)]
 pub enum Matched {
     Yes,
     No,

@@ -16,28 +16,28 @@ use region::{Nodes, Pairs};
 pub use sizes::{nodes_size, values_size};
 
 // The nodes that a store has, or why there are none to tell.
-#[derive(Drop)]
+#[derive(Clone, Copy)]
 pub enum NodesSize {
     Held(Nodes),
     Refused(Refusal),
 }
 
 // The pairs that a store holds, or why there are none to tell.
-#[derive(Drop)]
+#[derive(Clone, Copy)]
 pub enum ValuesSize {
     Held(Pairs),
     Refused(Refusal),
 }
 
 // Where a value is among those that a node holds, if it is held; else where it would go.
-#[derive(Drop)]
+#[derive(Clone, Copy)]
 pub struct Spot {
     pub at: usize,
     pub held: bool,
 }
 
 // The unit that holds a value, if it is held, else the unit before which it would go; and whether the node's row is a store's.
-#[derive(Drop)]
+#[derive(Clone, Copy)]
 pub struct Slot {
     pub at: usize,
     pub held: bool,

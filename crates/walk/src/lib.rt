@@ -16,7 +16,7 @@ pub use nodes::{begin, go_on, hash_child, level_stop};
 pub use sizes::{measure, own_text, value_count};
 
 // A node: the unit where its values begin, the unit behind them, where its children begin, and the unit behind all below it.
-#[derive(Drop)]
+#[derive(Clone, Copy)]
 pub enum Node {
     At {
         values: usize,
@@ -27,7 +27,7 @@ pub enum Node {
 }
 
 // Where a listing's walk begins: a node, its depth, and where in the name the level below it begins.
-#[derive(Drop)]
+#[derive(Clone, Copy)]
 pub struct Start {
     pub node: Node,
     pub depth: usize,
@@ -35,7 +35,7 @@ pub struct Start {
 }
 
 // Where a walk goes on: to the child '+', and to the child with the name's level, which ends at `stop`.
-#[derive(Drop)]
+#[derive(Clone, Copy)]
 pub struct Step {
     pub any: Node,
     pub own: Node,
@@ -43,7 +43,7 @@ pub struct Step {
 }
 
 // What a listing takes.
-#[derive(Drop)]
+#[derive(Clone, Copy)]
 pub struct Measured {
     pub bytes: usize,
     pub records: usize,
