@@ -4,6 +4,7 @@ use mathlib.Core.Bool.{true, false, and-false}
 use mathlib.Core.List.{List, [], ◌∷◌}
 use Prim.Native.Nat.{ℕ, suc, ◌+◌, ◌≤◌, ◌<◌}
 use native.Mathlib.Numerals.{add-one}
+use native.Mathlib.Omega.{arith}
 use lib.Dec.{eqb}
 use lib.ListN.{length, drop, get_or, drop_of_length-le}
 use lib.Seq.{drop-cons}
@@ -16,6 +17,13 @@ same_lengths [] [] h = absurd (h refl)
 same_lengths [] (y ∷ b) h = refl
 same_lengths (x ∷ a) [] h = refl
 same_lengths (x ∷ a) (y ∷ b) h = rw (same_lengths a b (λ e. h (ap suc e))) (and-false (eqb x y))
+
+-- a longer text is another
+pub same_longer : (a b : List ℕ) → length b < length a → same a b ≡ false
+same_longer a b h = same_lengths a b (λ e. omega (arith, h, e))
+
+-- the laws by which lengths tell two texts apart
+pub ruleset length_laws = (same_lengths, same_longer)
 
 module _ (a b : List ℕ) (i : ℕ) (ha : i < length a) (hb : i < length b) where
   pub same_stop : (get_or a i 0 ≡ get_or b i 0 → ⊥) → same (drop i a) (drop i b) ≡ false

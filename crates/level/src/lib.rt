@@ -85,6 +85,7 @@ pub fn text_from(text: &[u8], at: usize) -> &[u8]
 }
 
 // The same bytes.
+#[tactic(auto, using(crate::proofs::ByteLaws::length_laws))]
 pub fn same_bytes(a: &[u8], b: &[u8]) -> bool
     ensures { result ≡ same a.now b.now }
 {

@@ -1,14 +1,8 @@
 -- `level::same_bytes` meets its contract. Assumes nothing.
-use mathlib.Core.Path.{refl, sym, ◌∙◌}
+use mathlib.Core.Path.{sym, ◌∙◌}
 use native.Mathlib.Omega.{arith}
-use Rattle.level.proofs.ByteLaws.{same_lengths, same_stop, same_next, same_end}
+use Rattle.level.proofs.ByteLaws.{same_stop, same_next, same_end}
 use Rattle.level.proofs.same_bytes.Goals as goal
-
-pub returns-then-a-b : goal.returns-then-a-b
-returns-then-a-b c = sym (same_lengths c.args.a.now c.args.b.now c.if-a-b.true)
-
-pub loop-i-init : goal.loop-i-init
-loop-i-init c = (c.if-a-b.false, refl)
 
 pub returns-then-a-i : goal.returns-then-a-i
 returns-then-a-i c =
