@@ -10,7 +10,7 @@ use native.Mathlib.Omega.{arith}
 use Rattle.level.proofs.Join.{join-split, head_false, rest_false}
 use Rattle.level.specs.Kinds.{is_only, wild}
 use Rattle.level.specs.Levels.{split, push}
-use Rattle.topic.proofs.RuleLaws.{some_level}
+use Rattle.level.proofs.Split.{some_level}
 use Rattle.topic.specs.Answers.{checked}
 use Rattle.topic.specs.Rules.{Rule, ◌gives◌, index, name_rules, filter_rules}
 use Rattle.topic.specs.declared.Checked.TheVariants.{Refused}

@@ -1,16 +1,20 @@
 -- Laws of `split`: the level that begins at a position, and the levels after it. Assumes nothing.
 use mathlib.Core.Path.{◌≡◌, refl, sym, ap, ◌∙◌}
-use mathlib.Core.Bool.{Bool, true, false}
+use mathlib.Core.Bool.{Bool, true, false, cond}
+use Rattle.std.specs.List.{count_by, position, position_or_len}
+use Rattle.std.specs.Prelude.{Option, Some, None, unwrap_or, ltb}
+use Rattle.std.proofs.lemmas.List.Recursion.{is_position_or_len, is_count_by}
+use Rattle.std.proofs.lemmas.List.Sums.{count_by-le-length}
 use mathlib.Core.List.{List, [], ◌∷◌}
 use Prim.Native.Nat.{ℕ, zero, suc, ◌+◌, ◌-◌, ◌≤◌, ◌<◌}
-use native.Mathlib.Nat.{zero-add, add-zero, suc-add, add-suc, le_of_suc-le-suc, not-suc-le-zero}
+use native.Mathlib.Nat.{zero-add, suc-add, add-suc, le_of_suc-le-suc, not-suc-le-zero}
 use native.Mathlib.Numerals.{add-one}
 use native.Mathlib.Omega.{arith}
 use lib.Dec.{eqb}
 use lib.ListN.{length, take, drop, get_or, length-drop, drop_of_length-le}
-use lib.Seq.{drop-cons, take_all}
+use lib.Seq.{take_all}
 use native.Mathlib.Decide.{dec_le}
-use borrow.Author.Tests.{ne_eqb}
+use borrow.Author.Tests.{ltb-false}
 use Rattle.level.specs.Levels.{push, split, width, start_of}
 use Rattle.level.specs.Places.{keep, first, levels_at, end_of}
 
@@ -73,30 +77,6 @@ levels-none (b ∷ s) (suc i) h = levels-none s i (le_of_suc-le-suc h)
 
 pub end-within : (s : List ℕ) (i : ℕ) → i ≤ length s → end_of s i ≤ length s
 end-within s i h = omega (arith, length-first (drop i s), length-drop i s)
-
--- one step of the search for a level's end
-pub end_here : (s : List ℕ) (i : ℕ) → i < length s → get_or s i 0 ≡ 47 → end_of s i ≡ i
-end_here s i h e = rw (drop-cons s i 0 h, e) (add-zero i)
-
-pub end_next : (s : List ℕ) (i : ℕ) → i < length s → (get_or s i 0 ≡ 47 → ⊥) → end_of s (i + 1) ≡ end_of s i
-end_next s i h n =
-    let e : eqb (get_or s i 0) 47 ≡ false = ne_eqb _ _ n in
-    rw (drop-cons s i 0 h, e, add-one) (omega arith)
-
-pub end_past : (s : List ℕ) (i : ℕ) → length s ≤ i → end_of s i ≡ i
-end_past s i h = rw (drop_of_length-le s h) (add-zero i)
-
--- one step of the count of levels
-length_push : (b : ℕ) (s : List ℕ) → length (push false b (split s)) ≡ length (split s)
-length_push b s = rw (split_cons s)
-
-pub count_slash : (s : List ℕ) (i : ℕ) → i < length s → get_or s i 0 ≡ 47 → length (split (drop i s)) ≡ suc (length (split (drop (i + 1) s)))
-count_slash s i h e = rw (drop-cons s i 0 h, e, add-one)
-
-pub count_other : (s : List ℕ) (i : ℕ) → i < length s → (get_or s i 0 ≡ 47 → ⊥) → length (split (drop i s)) ≡ length (split (drop (i + 1) s))
-count_other s i h n =
-    let e : eqb (get_or s i 0) 47 ≡ false = ne_eqb _ _ n in
-    rw (drop-cons s i 0 h, e, add-one) (length_push (get_or s i 0) (drop (suc i) s))
 
 -- where a list goes on
 module _ {A : Type 0} where
@@ -197,9 +177,6 @@ part-first s i =
     let e : end_of s i - i ≡ length (first (drop i s)) = omega arith in
     rw e (take-first (drop i s))
 
-pub count_end : (s : List ℕ) (i : ℕ) → length s ≤ i → length (split (drop i s)) ≡ 1
-count_end s i h = rw (drop_of_length-le s h)
-
 -- what a caller of `part_at` uses: where the part ends
 pub part_end : (s : List ℕ) (i : ℕ) {l : List ℕ} → l ≡ first (drop i s) → i + length l ≡ end_of s i
 part_end s i e = ap (λ (l : List ℕ). i + length l) e
@@ -210,3 +187,41 @@ part-fits s i h e = rw (part_end s i e) (end-within s i h)
 -- no level begins past the end
 pub part_past : (s : List ℕ) (i : ℕ) → length s < i → [] ≡ first (drop i s)
 part_past s i h = rw (drop_of_length-le s {i = i} (omega arith))
+
+-- a text has a level more than it has '/'s
+pub count_slashes : (s : List ℕ) → length (split s) - 1 ≡ count_by (λ b. eqb b 47) s
+count_slashes = is_count_by (λ s. length (split s) - 1) (λ b. eqb b 47) refl (λ b s. less (eqb b 47) b s)
+  where
+    less : (t : Bool) (b : ℕ) (s : List ℕ) → length (push t b (split s)) - 1 ≡ cond t (1 + (length (split s) - 1)) (length (split s) - 1)
+    less true b s = rw (split_cons s) (omega arith)
+    less false b s = rw (split_cons s)
+
+-- the first level has the bytes before the first '/'
+length-keep-is : (t : Bool) (b : ℕ) (l : List ℕ) → length (keep t b l) ≡ cond t 0 (1 + length l)
+length-keep-is true b l = refl
+length-keep-is false b l = omega arith
+
+pub first-position : (s : List ℕ) → length (first s) ≡ position_or_len (λ b. eqb b 47) s
+first-position = is_position_or_len (λ s. length (first s)) (λ b. eqb b 47) refl (λ b s. length-keep-is (eqb b 47) b (first s))
+
+position-or : (s : List ℕ) (n : ℕ) (t : Bool) → ltb n (length s) ≡ t → n ≤ length s → unwrap_or (cond t (Some n) None) (length s) ≡ n
+position-or s n true e h = refl
+position-or s n false e h = omega (arith, ltb-false n (length s) e)
+
+pub end-position : (s : List ℕ) (from : ℕ) {rest : List ℕ} {o : Option ℕ} → rest ≡ drop from s → o ≡ position (λ b. eqb b 47) rest → from + unwrap_or o (length rest) ≡ end_of s from
+end-position s from {rest} {o} e q =
+    let n : ℕ = position_or_len (λ b. eqb b 47) rest in
+    let f : length (first rest) ≡ n = first-position rest in
+    let m : n ≤ length rest = rw (← f) (length-first rest) in
+    rw (q, ← e, position-or rest n (ltb n (length rest)) refl m, f)
+
+pub some_level : (s : List ℕ) → 0 < length (split s)
+some_level s = rw (split_cons s) (omega arith)
+
+-- a level, and those behind it
+pub next_level : (s : List ℕ) (i : ℕ) {l : List ℕ} → i ≤ length s → l ≡ first (drop i s) → levels_at s i ≡ l ∷ levels_at s (i + (length l + 1))
+next_level s i {l} h e = rw (e, levels_cons s i h, add-one (length (first (drop i s))), add-suc i (length (first (drop i s))))
+
+-- a text has at most a level more than bytes
+pub split_fits : (s : List ℕ) → length (split s) ≤ length s + 1
+split_fits s = omega (arith, count_slashes s, count_by-le-length (λ b. eqb b 47) s)

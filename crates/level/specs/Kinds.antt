@@ -1,5 +1,6 @@
 -- TO BELIEVE. What a level is (document 01, 'Text rules'; MQTT 4.7.1 and 4.7.2). '#' is 35, '$' is 36, '+' is 43. Assumes nothing.
 use Rattle.std.specs.Prelude.{ℕ, Bool, true, false, cond, ◌&&◌, ◌||◌, List, [], ◌∷◌, eqb, ltb, length}
+use Rattle.std.specs.List.{list_any}
 use Rattle.level.specs.declared.Kind.{Kind}
 use Rattle.level.specs.declared.Kind.TheVariants.{Normal, Metadata, Blank, SingleWildcard, MultiWildcard}
 
@@ -20,8 +21,7 @@ dollar (b ∷ l) = eqb b 36
 
 -- a '+' or a '#' is among the bytes
 abbrev pub wild : List ℕ → Bool
-wild [] = false
-wild (b ∷ l) = (eqb b 43 || eqb b 35) || wild l
+wild = list_any (λ b. eqb b 43 || eqb b 35)
 
 -- "A longer level that contains + or # is bad."
 abbrev pub bad : List ℕ → Bool

@@ -1,6 +1,7 @@
 -- TO BELIEVE. The levels of a text (document 01, 'Text rules'; MQTT 4.7.1.1). Assumes nothing.
 -- A text and a level are lists of bytes; '/' is 47.
-use Rattle.std.specs.Prelude.{◌≡◌, ℕ, suc, ◌+◌, Bool, true, false, ◌||◌, List, [], ◌∷◌, ◌++◌, eqb, length, take}
+use Rattle.std.specs.Prelude.{◌≡◌, ℕ, suc, ◌+◌, Bool, true, false, List, [], ◌∷◌, ◌++◌, eqb, length, take}
+use Rattle.std.specs.List.{list_any}
 
 -- a byte in front of a text's levels: '/' begins a new level, any other byte is the first byte of the first level
 abbrev pub push : Bool → ℕ → List (List ℕ) → List (List ℕ)
@@ -30,8 +31,7 @@ start_of s k = width (take k (split s))
 
 -- a byte is among these
 abbrev pub has : ℕ → List ℕ → Bool
-has b [] = false
-has b (x ∷ s) = eqb x b || has b s
+has b = list_any (λ x. eqb x b)
 
 -- levels of which none has a '/'
 pub data Clean : List (List ℕ) → Type 0 where

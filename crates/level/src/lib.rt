@@ -1,15 +1,19 @@
 // The levels of a text: what stands between its '/'s. A level is handed out as a part of the caller's own bytes.
 #![tactic(auto)]
 
-ghost use Rattle.std.specs.Prelude.{◌≡◌, length, drop};
+mod levels;
+
+ghost use Rattle.std.specs.Prelude.{◌≡◌, ◌==◌, length, drop};
+ghost use Rattle.std.specs.List.{position};
 ghost use Rattle.level.specs.Levels.{split, start_of, has};
 ghost use Rattle.level.specs.Kinds.{is_only, wild, dollar, bad, same, kind_of};
 ghost use Rattle.level.specs.Places.{first, end_of};
 
-// What a level is; None where there is no such level.
-#[derive(Clone, Copy)]
+pub use levels::{Levels, levels_of};
+
+// What a level is.
+#[derive(Clone, Copy, Debug, PartialEq, Eq)]
 pub enum Kind {
-    None,
     Normal,
     Metadata,
     Blank,
@@ -21,29 +25,22 @@ pub enum Kind {
 pub fn level_end(text: &[u8], from: usize) -> usize
     ensures { result ≡ end_of text.now from }
 {
-    let mut i = from;
-    while i < text.len() {
-        if text[i] == b'/' {
-            return i;
-        }
-        i += 1;
-    }
-    i
+    let rest = text_from(text, from);
+    from + first_slash(rest).unwrap_or(rest.len())
+}
+
+// Where the first '/' stands.
+fn first_slash(text: &[u8]) -> Option<usize>
+    ensures { result ≡ position (λ b. b == 47) text.now }
+{
+    text.iter().position(|byte| *byte == b'/')
 }
 
 // How many levels the text has.
 pub fn level_count(text: &[u8]) -> usize
     ensures { result ≡ length (split text.now) }
 {
-    let mut n = 1;
-    let mut i = 0;
-    while i < text.len() {
-        if text[i] == b'/' {
-            n += 1;
-        }
-        i += 1;
-    }
-    n
+    1 + text.iter().filter(|byte| **byte == b'/').count()
 }
 
 // Where level k begins; past the end, one more than the text's length.
@@ -51,13 +48,11 @@ pub fn level_start(text: &[u8], k: usize) -> usize
     ensures { result ≡ start_of text.now k }
 {
     let mut at = 0;
-    let mut j = 0;
-    while j < k {
+    for _ in 0..k {
         if text.len() < at {
             return at;
         }
         at = level_end(text, at) + 1;
-        j += 1;
     }
     at
 }
@@ -67,120 +62,69 @@ pub fn part_at(text: &[u8], at: usize) -> &[u8]
     ensures { result.now ≡ first (drop at text.now) }
 {
     if text.len() < at {
-        return &text[..0];
+        return &[];
     }
-    let end = level_end(text, at);
-    &text[at..end]
+    &text[at..level_end(text, at)]
 }
 
 // The text from a position on; empty past the end.
 pub fn text_from(text: &[u8], at: usize) -> &[u8]
     ensures { result.now ≡ drop at text.now }
 {
-    if at < text.len() {
-        &text[at..]
-    } else {
-        &text[..0]
-    }
+    text.get(at..).unwrap_or(&[])
 }
 
 // The same bytes.
-#[tactic(auto, using(crate::proofs::ByteLaws::length_laws))]
 pub fn same_bytes(a: &[u8], b: &[u8]) -> bool
     ensures { result ≡ same a.now b.now }
 {
-    if a.len() != b.len() {
-        return false;
-    }
-    let mut i = 0;
-    while i < a.len() {
-        if a[i] != b[i] {
-            return false;
-        }
-        i += 1;
-    }
-    true
+    a == b
 }
 
 // The byte is among the bytes.
 pub fn has_byte(bytes: &[u8], byte: u8) -> bool
     ensures { result ≡ has byte bytes.now }
 {
-    let mut i = 0;
-    while i < bytes.len() {
-        if bytes[i] == byte {
-            return true;
-        }
-        i += 1;
-    }
-    false
+    bytes.contains(&byte)
 }
 
 // A '+' or a '#' is among the bytes.
-#[tactic(auto, using(crate::proofs::KindLaws::wild_laws))]
 pub fn has_wildcard(bytes: &[u8]) -> bool
     ensures { result ≡ wild bytes.now }
 {
-    let mut i = 0;
-    while i < bytes.len() {
-        if bytes[i] == b'+' {
-            return true;
-        }
-        if bytes[i] == b'#' {
-            return true;
-        }
-        i += 1;
-    }
-    false
+    bytes.iter().any(|byte| matches!(*byte, b'+' | b'#'))
 }
 
 // The level is the one byte and nothing else.
 pub fn is_only(level: &[u8], byte: u8) -> bool
     ensures { result ≡ is_only byte level.now }
 {
-    if level.len() == 1 {
-        level[0] == byte
-    } else {
-        false
-    }
+    matches!(level, [only] if *only == byte)
 }
 
 // The level begins with '$'.
 pub fn is_metadata(level: &[u8]) -> bool
     ensures { result ≡ dollar level.now }
 {
-    if level.len() == 0 {
-        false
-    } else {
-        level[0] == b'$'
-    }
+    matches!(level, [b'$', ..])
 }
 
 // The level is longer than a wildcard and has one in it.
 pub fn is_bad(level: &[u8]) -> bool
     ensures { result ≡ bad level.now }
 {
-    if 1 < level.len() {
-        return has_wildcard(level);
-    }
-    false
+    1 < level.len() && has_wildcard(level)
 }
 
 // What a level that is not bad is.
 pub fn kind_of(level: &[u8]) -> Kind
     ensures { result ≡ kind_of level.now }
 {
-    if level.len() == 0 {
-        return Kind::Blank;
+    match level {
+        [] => Kind::Blank,
+        [b'+'] => Kind::SingleWildcard,
+        [b'#'] => Kind::MultiWildcard,
+        [b'$', ..] => Kind::Metadata,
+        _ => Kind::Normal,
     }
-    if is_only(level, b'+') {
-        return Kind::SingleWildcard;
-    }
-    if is_only(level, b'#') {
-        return Kind::MultiWildcard;
-    }
-    if is_metadata(level) {
-        return Kind::Metadata;
-    }
-    Kind::Normal
 }

@@ -4,3 +4,4 @@ pub mod LevelLaws
 pub mod ThirteenPairs
 pub mod Texts
 pub mod Settled
+pub mod FaultLaws

@@ -1,6 +1,6 @@
 -- Matching: what each turn of the loop over the two texts' levels finds. Assumes nothing.
 use mathlib.Core.Path.{◌≡◌, refl, sym, ap, ◌∙◌}
-use mathlib.Core.Bool.{Bool, true, false, ◌&&◌, ◌||◌}
+use mathlib.Core.Bool.{Bool, true, false, ◌||◌}
 use mathlib.Core.List.{List}
 use Prim.Native.Nat.{ℕ, ◌+◌, ◌≤◌, ◌<◌}
 use native.Mathlib.Numerals.{add-one}
@@ -12,12 +12,6 @@ use Rattle.level.specs.Levels.{split}
 use Rattle.level.specs.Kinds.{is_only, dollar}
 use Rattle.level.specs.Places.{first, levels_at, end_of}
 use Rattle.level.proofs.Split.{split_cons, levels_cons, levels-none, part-fits}
-use Rattle.refusal.specs.declared.Refusal.{Refusal}
-use Rattle.topic.specs.declared.Checked.{Checked}
-use Rattle.topic.specs.declared.Checked.TheVariants.{Accepted, Refused}
-use Rattle.topic.specs.declared.Matched.TheVariants.{Yes, No, Refused as MatchRefused}
-use Rattle.topic.specs.Rules.{filter_rules, name_rules}
-use Rattle.topic.specs.Answers.{checked, matched}
 use Rattle.topic.specs.Match.{level_takes, takes, lead_wild, lead_dollar}
 
 -- A turn: what the walk from i and j answers, `all`, from the filter's level `fl` at i and the name's level `nl` at j.
@@ -65,6 +59,9 @@ lead-wild_at s = rw (split_cons s)
 pub lead-dollar_at : (s : List ℕ) → lead_dollar (split s) ≡ dollar (first s)
 lead-dollar_at s = rw (split_cons s)
 
+-- the laws by which the first levels are told
+pub ruleset lead_laws = (lead-wild_at, lead-dollar_at)
+
 -- what a call g(x) answered, of what x is
 pub seen : {A B : Type 0} (g : A → B) {x y : A} {r v : B} → x ≡ y → r ≡ g x → r ≡ v → g y ≡ v
 seen g p q e = ap g (sym p) ∙ sym q ∙ e
@@ -72,23 +69,3 @@ seen g p q e = ap g (sym p) ∙ sym q ∙ e
 -- the next level begins within the text or just past it
 pub next_fits : (s : List ℕ) (i : ℕ) {l : List ℕ} → i ≤ length s → l ≡ first (drop i s) → i + length l + 1 ≤ length s + 1
 next_fits s i h e = omega (arith, part-fits s i h e)
-
--- the answers of `matches`, from its tests in their order
-module _ (f n : List ℕ) {k : Checked} (ek : k ≡ checked (filter_rules f)) where
-  pub filter_refused : {r : Refusal} → k ≡ Refused r → MatchRefused r ≡ matched f n
-  filter_refused h = rw (← ek, h)
-
-  module _ (hk : k ≡ Accepted) {m : Checked} (em : m ≡ checked (name_rules n)) where
-    pub name_refused : {r : Refusal} → m ≡ Refused r → MatchRefused r ≡ matched f n
-    name_refused h = rw (← ek, hk, ← em, h)
-
-    module _ (hm : m ≡ Accepted) {b : Bool} (eb : b ≡ (lead_wild (split f) && lead_dollar (split n))) where
-      pub match_barred : b ≡ true → No ≡ matched f n
-      match_barred h = rw (← ek, hk, ← em, hm, ← eb, h)
-
-      module _ (hb : b ≡ false) {t : Bool} (et : t ≡ takes (split f) (split n)) where
-        pub match_yes : t ≡ true → Yes ≡ matched f n
-        match_yes h = rw (← ek, hk, ← em, hm, ← eb, hb, ← et, h)
-
-        pub match_no : t ≡ false → No ≡ matched f n
-        match_no h = rw (← ek, hk, ← em, hm, ← eb, hb, ← et, h)

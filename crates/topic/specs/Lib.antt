@@ -2,5 +2,4 @@ pub mod Match
 pub mod Rules
 pub mod Answers
 pub mod Pairs
-pub mod Faults
 pub mod Settled
