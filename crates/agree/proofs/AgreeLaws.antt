@@ -20,7 +20,7 @@ use Rattle.held.proofs.HeldLaws.{stored_sweep, has-stored, pair-filter, stores_a
 use Rattle.held.proofs.Histories.{history-held, run_names, history-stored}
 use Rattle.region.specs.Units.{stored_of}
 use Rattle.region.specs.Store.{room_at, forest_at, RetainedStore, SubscriptionStore}
-use Rattle.edit.specs.declared.Listed.TheVariants.{Given}
+use Rattle.edit.specs.Given.{listed}
 use Rattle.edit.specs.Runs.{Runs, Empty}
 use Rattle.edit.proofs.RunLaws.{from_empty}
 use Rattle.edit.proofs.GiveLaws.{given_front}
@@ -36,7 +36,7 @@ use Rattle.agree.proofs.SizedLaws.{names_fit, pairs_fit, pairs_few}
 module _ (s u name filter : List ℕ) (clock : ℕ) (retained : RetainedStore s) (subscribed : SubscriptionStore u)
     (unexpired : has_filter (split name) (sweep_held clock (namesIn s)) ≡ true) (held : has_filter (split filter) (held_in u) ≡ true)
     (before after before' after' : List ℕ) where
-  pub calls_agree : {bytes records bytes' records' : ℕ} → LooksKnown s filter clock before after (Given bytes records) → ListsKnown u name before' after' (Given bytes' records')
+  pub calls_agree : {bytes records bytes' records' : ℕ} → LooksKnown s filter clock before after (listed bytes records) → ListsKnown u name before' after' (listed bytes' records')
       → Agree name filter clock after bytes after' bytes'
   unfolding lookup_bytes listing_bytes
   calls_agree a b =
@@ -68,8 +68,8 @@ module _ {cs : List Change} {ds : List Call} {s t u v : List ℕ} (a : Empty ret
       pair-filter f value (held_in v) (ap (is_held (f, value)) g.1 ∙ history-held (f, value) (room_at u) ds [] g.0 ∙ e)
 
   pub runs_agree : (name filter : List ℕ) (clock value : ℕ) {stays : Stored} → passed (unexpired clock) (retained_for (split name) cs) ≡ some stays → subscribed (split filter, value) ds ≡ true
-      → (before before' : List ℕ) {after after' : List ℕ} {bytes records bytes' records' : ℕ} → LooksKnown t filter clock before after (Given bytes records)
-      → ListsKnown v name before' after' (Given bytes' records') → Agree name filter clock after bytes after' bytes'
+      → (before before' : List ℕ) {after after' : List ℕ} {bytes records bytes' records' : ℕ} → LooksKnown t filter clock before after (listed bytes records)
+      → ListsKnown v name before' after' (listed bytes' records') → Agree name filter clock after bytes after' bytes'
   runs_agree name filter clock value e g before before' {after} {after'} k l =
       calls_agree t v name filter clock (from_empty retained_store a x).2 (from_empty subscription_store b y).2 (left-unexpired (split name) clock e) (left-subscribed (split filter) value g)
       before after before' after' k l

@@ -1,4 +1,5 @@
 -- The tests of a row, as the code makes them. Assumes nothing.
+use Rattle.std.specs.Prelude.{None, Some}
 use mathlib.Core.Path.{◌≡◌, refl, sym, ap, ◌∙◌}
 use Prim.Native.Nat.{ℕ, suc, ◌+◌, ◌-◌, ◌*◌, ◌/◌, ◌%◌, ◌≤◌, ◌<◌, min}
 use mathlib.Core.Bool.{Bool, true, false, not, cond, ◌&&◌, ◌||◌, and-true}
@@ -17,17 +18,17 @@ use Rattle.held.specs.Order.{Level, level_lt}
 use Rattle.held.specs.Room.{level_cells}
 use Rattle.held.proofs.Orders.{level_order, eq_lower}
 use Rattle.region.specs.declared.Kind.{Kind}
-use Rattle.forest.specs.declared.Order.{Order}
-use Rattle.forest.specs.declared.Order.TheVariants.{Equal, Greater}
+use Rattle.std.specs.Ordering.{is_lt}
+use Rattle.std.specs.declared.cmp.Ordering.{Ordering}
+use Rattle.std.specs.declared.cmp.Ordering.TheVariants.{Equal, Greater}
 use Rattle.forest.specs.Compare.{order_of}
 use Rattle.forest.specs.Places.{unit_at, len_at, own_at, below_at, level_in}
 use Rattle.audit.specs.declared.Head.{Head}
 use Rattle.audit.specs.declared.Left.{Left}
-use Rattle.audit.specs.declared.Tally.TheVariants.{Sound, Unsound}
 use Rattle.audit.specs.Tally.{taken}
 use Rattle.audit.specs.Heads.{HeadAt}
 use Rattle.content.specs.Contents.{every, level_fine, plain_to, own_fine}
-use Rattle.audit.specs.Tests.{end_at, may_hold, shape_fine, less, follows, marks_fine, fill_fine, written_fine, text_fine, placed_fine, row_fine}
+use Rattle.audit.specs.Tests.{end_at, may_hold, shape_fine, follows, marks_fine, fill_fine, written_fine, text_fine, placed_fine, row_fine}
 use Rattle.content.proofs.LevelLaws.{short_fine}
 
 -- the head
@@ -146,14 +147,14 @@ module _ (l : Level) (d : ℕ) where
       shape_both h o em = rw (sym et ∙ h, ne_eqb own 0 o) (em ∙ sym (and-true (may_hold d l)))
 
 -- what follows it
-less_is : (a b : Level) → less (order_of a b) ≡ level_lt a b
+less_is : (a b : Level) → is_lt (order_of a b) ≡ level_lt a b
 less_is a b = go (level_lt a b) refl
   where
-    go : (t : Bool) → level_lt a b ≡ t → less (order_of a b) ≡ t
+    go : (t : Bool) → level_lt a b ≡ t → is_lt (order_of a b) ≡ t
     go true e = rw (eq_lower level_order a b e, e)
     go false e = rw e (same_or (same a b))
       where
-        same_or : (t : Bool) → less (cond t Equal Greater) ≡ false
+        same_or : (t : Bool) → is_lt (cond t Equal Greater) ≡ false
         same_or true = refl
         same_or false = refl
 
@@ -162,9 +163,9 @@ module _ (base : ℕ) (s : List ℕ) (l : Level) (past n : ℕ) where
   unfolding follows
   follows-none h = rw (le-ltb past n h)
 
-  pub follows_some : past < n → {m : Level} → m ≡ level_in base s past n → {o : Order} → o ≡ order_of l m → {t : Bool} → t ≡ less o → t ≡ follows base s l past n
+  pub follows_some : past < n → {m : Level} → m ≡ level_in base s past n → {o : Ordering} → o ≡ order_of l m → {t : Bool} → t ≡ is_lt o → t ≡ follows base s l past n
   unfolding follows
-  follows_some h {m} em eo et = rw (lt-ltb past n h) (et ∙ ap less eo ∙ less_is l m ∙ ap (level_lt l) em)
+  follows_some h {m} em eo et = rw (lt-ltb past n h) (et ∙ ap is_lt eo ∙ less_is l m ∙ ap (level_lt l) em)
 
 -- a row that is written as it is read
 module _ (k : Kind) (base : ℕ) (s : List ℕ) (d i : ℕ) {h : Head} (e : HeadAt base s i h) where
@@ -226,20 +227,20 @@ module _ (l : Level) {p : Bool} (ep : p ≡ is_only 43 l) where
 
 -- what a node takes
 module _ (a : Left) (l : Level) (own : ℕ) where
-  pub take_nodes : a.nodes < 1 → Unsound ≡ taken a l own
+  pub take_nodes : a.nodes < 1 → None ≡ taken a l own
   unfolding taken
   take_nodes h = rw (lt-leb 1 a.nodes h)
 
   module _ (hn : 1 ≤ a.nodes) where
-    pub take_pairs : a.pairs < own → Unsound ≡ taken a l own
+    pub take_pairs : a.pairs < own → None ≡ taken a l own
     unfolding taken
     take_pairs h = rw (le-leb 1 a.nodes hn, lt-leb own a.pairs h)
 
     module _ (hp : own ≤ a.pairs) {c : ℕ} (ec : c ≡ level_cells l) where
-      pub take_cells : a.cells < c → Unsound ≡ taken a l own
+      pub take_cells : a.cells < c → None ≡ taken a l own
       unfolding taken
       take_cells h = rw (le-leb 1 a.nodes hn, le-leb own a.pairs hp, lt-leb (level_cells l) a.cells (rw ec at h))
 
-      pub take_all : c ≤ a.cells → Sound (record { nodes = a.nodes - 1; pairs = a.pairs - own; cells = a.cells - c }) ≡ taken a l own
+      pub take_all : c ≤ a.cells → Some (record { nodes = a.nodes - 1; pairs = a.pairs - own; cells = a.cells - c }) ≡ taken a l own
       unfolding taken
       take_all h = rw (le-leb 1 a.nodes hn, le-leb own a.pairs hp, le-leb (level_cells l) a.cells (rw ec at h), ec)

@@ -1,5 +1,6 @@
 -- The pass over the rows finds them sound exactly when the forest in them is written down there and fine, and takes its
 -- counts from what was left. Assumes nothing.
+use Rattle.std.specs.Prelude.{None, Option, Some}
 use mathlib.Core.Path.{◌≡◌, refl, sym, ap, subst, ◌∙◌}
 use Prim.Native.Nat.{ℕ, zero, suc, ◌+◌, ◌-◌, ◌≤◌, ◌<◌}
 use mathlib.Core.Bool.{Bool, true, false, cond}
@@ -18,8 +19,6 @@ use Rattle.region.specs.declared.Kind.{Kind}
 use Rattle.forest.specs.Places.{unit_at, forest_in, len_at, own_at, below_at, row_end, kids_end, level_in, own_in}
 use Rattle.forest.proofs.FirstRow.{forest-none, forest_some}
 use Rattle.audit.specs.declared.Left.{Left}
-use Rattle.audit.specs.declared.Tally.{Tally}
-use Rattle.audit.specs.declared.Tally.TheVariants.{Sound, Unsound}
 use Rattle.audit.specs.Tests.{end_at, past_at, node_fine}
 use Rattle.audit.specs.Tally.{on_sound, taken, tally}
 use Rattle.audit.specs.Fine.{Follows, Audited}
@@ -204,23 +203,23 @@ module _ {X : Type 0} {kind : Kind} (u : Holding X kind) (base : ℕ) (s : List 
 
   -- the theorem one way, by the number of units
   abbrev Finds : ℕ → Type 0
-  Finds m = (d room i n : ℕ) (a b : Left) → n - i ≤ m → i ≤ n → unit_at base n ≤ length s → 64 + n ≤ base → tally kind base s d room i n a ≡ Sound b → It d room i n a b (In i n)
+  Finds m = (d room i n : ℕ) (a b : Left) → n - i ≤ m → i ≤ n → unit_at base n ≤ length s → 64 + n ≤ base → tally kind base s d room i n a ≡ Some b → It d room i n a b (In i n)
 
   module _ (d room i n : ℕ) where
-    abbrev below : Left → Tally
+    abbrev below : Left → Option Left
     below b = tally kind base s (d + 1) (room - (len_at base s i + 1)) (row_end base s i n) (kids_end base s i n) b
 
-    abbrev behind : Left → Tally
+    abbrev behind : Left → Option Left
     behind c = tally kind base s d room (kids_end base s i n) n c
 
-  row_found : (m d room i n : ℕ) (a b : Left) → Finds m → n - i ≤ suc m → i < n → unit_at base n ≤ length s → 64 + n ≤ base → tally kind base s d room i n a ≡ Sound b → It d room i n a b (In i n)
+  row_found : (m d room i n : ℕ) (a b : Left) → Finds m → n - i ≤ suc m → i < n → unit_at base n ≤ length s → 64 + n ≤ base → tally kind base s d room i n a ≡ Some b → It d room i n a b (In i n)
   row_found m d room i n a b ih f h within marked e =
       rw (forest_some u.form.read base s i n h within) (node (node_fine kind base s d room i n) refl (sym (tally_some kind base s d room i n a h within) ∙ e))
     where
-      kids : (c : Left) → Tested kind base s d room i n → Took a c (level_in base s i n) (own_at base s i) → (y : Tally) → below d room i n c ≡ y → on_sound y (behind d room i n) ≡ Sound b
+      kids : (c : Left) → Tested kind base s d room i n → Took a c (level_in base s i n) (own_at base s i) → (y : Option Left) → below d room i n c ≡ y → on_sound y (behind d room i n) ≡ Some b
           → It d room i n a b (fork (L d room i n h within marked) (W d room i n h within marked) (K d room i n h within marked) (N d room i n h within marked))
-      kids c t k Unsound q e = absurd (unsound-not b e)
-      kids c t k (Sound g) q e =
+      kids c t k None q e = absurd (unsound-not b e)
+      kids c t k (Some g) q e =
           let fits : past_at base s i ≤ n = t.past in
           let ee : row_end base s i n ≡ end_at base s i = end_is u base s o i n h within marked fits in
           let ep : kids_end base s i n ≡ past_at base s i = past_is u base s o i n h within marked fits in
@@ -228,18 +227,18 @@ module _ {X : Type 0} {kind : Kind} (u : Holding X kind) (base : ℕ) (s : List 
           (ih (d + 1) (room - (len_at base s i + 1)) (row_end base s i n) (kids_end base s i n) c g (omega (arith, ee, ep)) (omega (arith, ee, ep)) (omega (arith, ep)) (omega (arith, ep)) q)
           (ih d room (kids_end base s i n) n g b (omega (arith, ep)) (omega (arith, ep)) within marked e)
 
-      took-all : Tested kind base s d room i n → (x : Tally) → taken a (level_in base s i n) (own_at base s i) ≡ x → on_sound x (λ c. on_sound (below d room i n c) (behind d room i n)) ≡ Sound b
+      took-all : Tested kind base s d room i n → (x : Option Left) → taken a (level_in base s i n) (own_at base s i) ≡ x → on_sound x (λ c. on_sound (below d room i n c) (behind d room i n)) ≡ Some b
           → It d room i n a b (fork (L d room i n h within marked) (W d room i n h within marked) (K d room i n h within marked) (N d room i n h within marked))
-      took-all t Unsound q e = absurd (unsound-not b e)
-      took-all t (Sound c) q e = kids c t (took a c (level_in base s i n) (own_at base s i) q) (below d room i n c) refl e
+      took-all t None q e = absurd (unsound-not b e)
+      took-all t (Some c) q e = kids c t (took a c (level_in base s i n) (own_at base s i) q) (below d room i n c) refl e
 
       node : (t : Bool) → node_fine kind base s d room i n ≡ t
-          → cond t (on_sound (taken a (level_in base s i n) (own_at base s i)) (λ c. on_sound (below d room i n c) (behind d room i n))) Unsound ≡ Sound b
+          → cond t (on_sound (taken a (level_in base s i n) (own_at base s i)) (λ c. on_sound (below d room i n c) (behind d room i n))) None ≡ Some b
           → It d room i n a b (fork (L d room i n h within marked) (W d room i n h within marked) (K d room i n h within marked) (N d room i n h within marked))
       node true q e = took-all (tested kind base s d room i n q) (taken a (level_in base s i n) (own_at base s i)) refl e
       node false q e = absurd (unsound-not b e)
 
-  none_found : (d room i n : ℕ) (a b : Left) → n ≤ i → i ≤ n → tally kind base s d room i n a ≡ Sound b → It d room i n a b (In i n)
+  none_found : (d room i n : ℕ) (a b : Left) → n ≤ i → i ≤ n → tally kind base s d room i n a ≡ Some b → It d room i n a b (In i n)
   none_found d room i n a b h up e =
       let q : a ≡ b = sound_is a b (sym (tally-none kind base s d room i n a h) ∙ e) in
       subst (λ (F : Forest X). It d room i n a b F) (sym (forest-none u.form.read base s i n h))
@@ -255,9 +254,9 @@ module _ {X : Type 0} {kind : Kind} (u : Holding X kind) (base : ℕ) (s : List 
 
   -- and the other way
   abbrev Passes : ℕ → Type 0
-  Passes m = (d room i n : ℕ) (a b : Left) → n - i ≤ m → i ≤ n → unit_at base n ≤ length s → 64 + n ≤ base → n < 65536 → It d room i n a b (In i n) → tally kind base s d room i n a ≡ Sound b
+  Passes m = (d room i n : ℕ) (a b : Left) → n - i ≤ m → i ≤ n → unit_at base n ≤ length s → 64 + n ≤ base → n < 65536 → It d room i n a b (In i n) → tally kind base s d room i n a ≡ Some b
 
-  row_passes : (m d room i n : ℕ) (a b : Left) → Passes m → n - i ≤ suc m → i < n → unit_at base n ≤ length s → 64 + n ≤ base → n < 65536 → It d room i n a b (In i n) → tally kind base s d room i n a ≡ Sound b
+  row_passes : (m d room i n : ℕ) (a b : Left) → Passes m → n - i ≤ suc m → i < n → unit_at base n ≤ length s → 64 + n ≤ base → n < 65536 → It d room i n a b (In i n) → tally kind base s d room i n a ≡ Some b
   row_passes m d room i n a b ih f h within marked short x =
       let y = subst (λ (F : Forest X). It d room i n a b F) (forest_some u.form.read base s i n h within) x in
       let t = back_tested d room i n h within marked y short in
@@ -275,10 +274,10 @@ module _ {X : Type 0} {kind : Kind} (u : Holding X kind) (base : ℕ) (s : List 
       )
       (ih d room (kids_end base s i n) n g b (omega (arith, ep)) (omega (arith, ep)) within marked short (back_next d room i n h within marked y short))
 
-  none_passes : (d room i n : ℕ) (a b : Left) → n ≤ i → It d room i n a b (In i n) → tally kind base s d room i n a ≡ Sound b
+  none_passes : (d room i n : ℕ) (a b : Left) → n ≤ i → It d room i n a b (In i n) → tally kind base s d room i n a ≡ Some b
   none_passes d room i n a b h x =
       let y = subst (λ (F : Forest X). It d room i n a b F) (forest-none u.form.read base s i n h) x in
-      tally-none kind base s d room i n a h ∙ ap (λ (z : Left). Sound z) (leaf_is y)
+      tally-none kind base s d room i n a h ∙ ap (λ (z : Left). Some z) (leaf_is y)
 
   pub audit_passes : (m : ℕ) → Passes m
   audit_passes zero d room i n a b fuel up within marked short x = none_passes d room i n a b (omega arith) x

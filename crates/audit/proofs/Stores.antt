@@ -1,4 +1,5 @@
 -- The test of a region is true exactly of a store. Assumes nothing.
+use Rattle.std.specs.Prelude.{None, Option, Some}
 use mathlib.Core.Path.{◌≡◌, refl, sym, ap, subst, ◌∙◌}
 use Prim.Native.Nat.{ℕ, ◌-◌, ◌*◌, ◌≤◌}
 use mathlib.Core.Bool.{Bool, true, false, ◌&&◌, true≢false}
@@ -26,8 +27,6 @@ use Rattle.region.specs.Store.{room_at, forest_at, used_by, WrittenIn, Accepts, 
 use Rattle.region.proofs.Stores.{units_fit}
 use Rattle.forest.specs.Places.{unit_at, forest_in}
 use Rattle.audit.specs.declared.Left.{Left}
-use Rattle.audit.specs.declared.Tally.{Tally}
-use Rattle.audit.specs.declared.Tally.TheVariants.{Sound, Unsound}
 use Rattle.audit.specs.Tally.{tally}
 use Rattle.content.specs.Texts.{rules_of, TextFine}
 use Rattle.audit.specs.Fine.{Fine, Audited}
@@ -52,9 +51,9 @@ none_is a e =
     let z : a.cells ≡ 0 = eqb-true a.cells 0 (and_right (eqb a.pairs 0) (eqb a.cells 0) q) in
     same_left a nothing x y z
 
-taken_is : (t : Tally) → all_taken t ≡ true → t ≡ Sound nothing
-taken_is (Sound a) e = ap (λ (b : Left). Sound b) (none_is a e)
-taken_is Unsound e = absurd (true≢false (sym e))
+taken_is : (t : Option Left) → all_taken t ≡ true → t ≡ Some nothing
+taken_is (Some a) e = ap (λ (b : Left). Some b) (none_is a e)
+taken_is None e = absurd (true≢false (sym e))
 
 module _ {X : Type 0} {kind : Kind} (u : Holding X kind) (s : List ℕ) (o : AreBytes s) where
   abbrev F : Forest X

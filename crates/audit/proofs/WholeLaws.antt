@@ -1,4 +1,5 @@
 -- The test of a whole region, as the code makes it. Assumes nothing.
+use Rattle.std.specs.Prelude.{Err, Ok, Option, Result}
 use mathlib.Core.Path.{◌≡◌, refl, sym, ap, ◌∙◌}
 use Prim.Native.Nat.{ℕ, ◌+◌, ◌≤◌, ◌<◌}
 use mathlib.Core.Bool.{Bool, true, false, not, ◌&&◌}
@@ -16,15 +17,12 @@ use Rattle.refusal.specs.declared.Refusal.{Refusal}
 use Rattle.refusal.specs.declared.Refusal.TheVariants.{BadSize}
 use Rattle.region.specs.declared.Kind.{Kind}
 use Rattle.region.specs.declared.Capacities.{Capacities}
-use Rattle.region.specs.declared.Size.{Size}
-use Rattle.region.specs.declared.Size.TheVariants.{Bytes, Refused}
 use Rattle.region.specs.Layout.{unit_room, needed_bytes}
 use Rattle.region.specs.Opening.{room_of, needed_of}
 use Rattle.region.specs.Shapes.{CapacitiesOf}
 use Rattle.region.specs.Store.{room_at}
 use Rattle.forest.specs.Places.{unit_at}
 use Rattle.audit.specs.declared.Left.{Left}
-use Rattle.audit.specs.declared.Tally.{Tally}
 use Rattle.audit.specs.Tally.{tally}
 use Rattle.audit.specs.Whole.{mark_of, left_at, used_units, units_base, none, all_taken, used_fine, header_fine, store_fine}
 use Rattle.audit.specs.Decides.{StoreOf, Decides}
@@ -71,23 +69,23 @@ module _ (s : List ℕ) (long : 64 ≤ length s) where
         used-units h eu er = rw (nodes_in, le-leb un n hn, pairs_in, le-leb up p hp, cells_in, le-leb uc c h, eu, er, number 16 (omega arith))
 
   -- the header
-  module _ (k : Kind) {c : Capacities} (ec : CapacitiesOf s c) {z : Size} (ez : z ≡ needed_of (room_of c)) where
+  module _ (k : Kind) {c : Capacities} (ec : CapacitiesOf s c) {z : Result ℕ Refusal} (ez : z ≡ needed_of (room_of c)) where
     size_is : z ≡ needed_of (room_at s)
     size_is = ez ∙ ap needed_of (ec.room_is (omega arith))
 
-    ranged : (t : Bool) → in_range (room_at s) ≡ t → {n : ℕ} → z ≡ Bytes n → (in_range (room_at s) ≡ true) × (n ≡ needed_bytes (room_at s))
-    ranged true q {n} e = (q, (let f : Bytes (needed_bytes (room_at s)) ≡ Bytes n = sym (size_is ∙ rw q) ∙ e in cc))
-    ranged false q {n} e = absurd (let f : Refused BadSize ≡ Bytes n = sym (size_is ∙ rw q) ∙ e in let y : ◌≡◌ {A = ℕ} 0 1 = cc in omega arith)
+    ranged : (t : Bool) → in_range (room_at s) ≡ t → {n : ℕ} → z ≡ Ok n → (in_range (room_at s) ≡ true) × (n ≡ needed_bytes (room_at s))
+    ranged true q {n} e = (q, (let f : Ok (needed_bytes (room_at s)) ≡ Ok n = sym (size_is ∙ rw q) ∙ e in cc))
+    ranged false q {n} e = absurd (let f : Err BadSize ≡ Ok n = sym (size_is ∙ rw q) ∙ e in let y : ◌≡◌ {A = ℕ} 0 1 = cc in omega arith)
 
-    unranged : (t : Bool) → in_range (room_at s) ≡ t → {r : Refusal} → z ≡ Refused r → in_range (room_at s) ≡ false
-    unranged true q {r} e = absurd (let f : Bytes (needed_bytes (room_at s)) ≡ Refused r = sym (size_is ∙ rw q) ∙ e in let y : ◌≡◌ {A = ℕ} 0 1 = cc in omega arith)
+    unranged : (t : Bool) → in_range (room_at s) ≡ t → {r : Refusal} → z ≡ Err r → in_range (room_at s) ≡ false
+    unranged true q {r} e = absurd (let f : Ok (needed_bytes (room_at s)) ≡ Err r = sym (size_is ∙ rw q) ∙ e in let y : ◌≡◌ {A = ℕ} 0 1 = cc in omega arith)
     unranged false q e = q
 
-    pub header_range : {r : Refusal} → z ≡ Refused r → false ≡ header_fine k s
+    pub header_range : {r : Refusal} → z ≡ Err r → false ≡ header_fine k s
     unfolding header_fine
     header_range e = rw (unranged (in_range (room_at s)) refl e)
 
-    module _ {n : ℕ} (en : z ≡ Bytes n) where
+    module _ {n : ℕ} (en : z ≡ Ok n) where
       range : in_range (room_at s) ≡ true
       range = (ranged (in_range (room_at s)) refl en).0
 
@@ -145,7 +143,7 @@ module _ (k : Kind) (s : List ℕ) where
           let h = header_yes k s (sym et ∙ not-false t ht) in
           (omega (arith, h.long, h.units, used, er), omega (arith, h.units, used, er))
 
-      pub whole_last : {a : Left} → a ≡ left_at s → {x : Tally} → x ≡ tally k (64 + r) s 1 65536 0 u a → {v : Bool} → v ≡ all_taken x → v ≡ store_fine k s
+      pub whole_last : {a : Left} → a ≡ left_at s → {x : Option Left} → x ≡ tally k (64 + r) s 1 65536 0 u a → {v : Bool} → v ≡ all_taken x → v ≡ store_fine k s
       unfolding store_fine
       whole_last {a} ea ex ev =
           let y : tally k (64 + r) s 1 65536 0 u a ≡ tally k (units_base s) s 1 65536 0 (used_units s) (left_at s) = rw (ea, er, used) in

@@ -6,8 +6,6 @@ use Rattle.lent.specs.Parts.{part}
 use Rattle.held.specs.Order.{Level, level_lt}
 use Rattle.region.specs.declared.Kind.{Kind}
 use Rattle.content.specs.Contents.{every, level_fine, own_fine}
-use Rattle.forest.specs.declared.Order.{Order}
-use Rattle.forest.specs.declared.Order.TheVariants.{Less, Equal, Greater}
 use Rattle.forest.specs.Places.{unit_at, len_at, own_at, below_at, level_units_at, level_in}
 
 -- where what a node holds begins, where its row ends, and where all below it ends, as its head says
@@ -36,11 +34,6 @@ unfoldable pub fill_fine : (base : ℕ) → List ℕ → ℕ → Bool
 fill_fine base s i = every 0 (part (unit_at base i + 8 + len_at base s i) (level_units_at base s i * 16 - 8 - len_at base s i) s)
 
 -- a level comes before that of the next node of its row, which begins at unit `past` if there is one
-abbrev pub less : Order → Bool
-less Less = true
-less Equal = false
-less Greater = false
-
 unfoldable pub follows : (base : ℕ) → List ℕ → Level → (past n : ℕ) → Bool
 follows base s l past n = not (ltb past n) || level_lt l (level_in base s past n)
 

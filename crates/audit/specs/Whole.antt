@@ -1,4 +1,5 @@
 -- FOR THE CODE. The test of a whole region: its header, and then its rows, which must have all that the header promises. Assumes nothing.
+use Rattle.std.specs.Prelude.{None, Option, Some}
 use Rattle.std.specs.Prelude.{ℕ, ◌+◌, Bool, false, ◌&&◌, List, eqb, leb, length}
 use Rattle.lent.specs.Numbers.{be}
 use Rattle.lent.specs.Parts.{part}
@@ -8,8 +9,6 @@ use Rattle.region.specs.declared.Kind.TheVariants.{Subscriptions, Retained}
 use Rattle.region.specs.Layout.{unit_room, needed_bytes}
 use Rattle.region.specs.Store.{room_at}
 use Rattle.audit.specs.declared.Left.{Left}
-use Rattle.audit.specs.declared.Tally.{Tally}
-use Rattle.audit.specs.declared.Tally.TheVariants.{Sound, Unsound}
 use Rattle.audit.specs.Tally.{tally}
 
 -- the header's first four bytes, as a number: the mark, the kind and the shape
@@ -31,9 +30,9 @@ units_base s = 64 + unit_room (room_at s)
 abbrev pub none : Left → Bool
 none a = eqb a.nodes 0 && (eqb a.pairs 0 && eqb a.cells 0)
 
-abbrev pub all_taken : Tally → Bool
-all_taken (Sound a) = none a
-all_taken Unsound = false
+abbrev pub all_taken : Option Left → Bool
+all_taken (Some a) = none a
+all_taken None = false
 
 -- what is in use is no more than the capacities
 unfoldable pub used_fine : List ℕ → Bool

@@ -16,13 +16,6 @@ pub struct Left {
     pub cells: usize,
 }
 
-// What the pass over some rows finds: they are sound, and so much is left; or they are not.
-#[derive(Clone, Copy)]
-pub enum Tally {
-    Sound(Left),
-    Unsound,
-}
-
 // The numbers of a row's head: the length of its level, how many it holds, the units below it, and one that is 0.
 #[derive(Clone, Copy)]
 pub struct Head {

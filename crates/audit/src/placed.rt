@@ -2,10 +2,9 @@
 ghost use Rattle.std.specs.Prelude.{◌≡◌, ◌+◌, ◌/◌, ◌≤◌, ◌<◌, length};
 ghost use Rattle.forest.specs.Places.{unit_at, level_in};
 ghost use Rattle.audit.specs.Heads.{HeadAt};
-ghost use Rattle.audit.specs.Tests.{may_hold, shape_fine, less, follows, placed_fine};
+ghost use Rattle.audit.specs.Tests.{may_hold, shape_fine, follows, placed_fine};
 
 use crate::Head;
-use forest::Order;
 
 // A blank first level holds nothing: it would be the empty text.
 fn may_hold(level: &[u8], d: usize) -> bool
@@ -36,16 +35,6 @@ fn shape_is_sound(level: &[u8], d: usize, own: usize, below: usize) -> bool
     may_hold(level, d)
 }
 
-fn is_less(order: Order) -> bool
-    ensures { result ≡ less order }
-{
-    match order {
-        Order::Less => true,
-        Order::Equal => false,
-        Order::Greater => false,
-    }
-}
-
 // The next node of the row, which begins at unit `past`, has a later level.
 fn is_in_order(s: &[u8], base: usize, level: &[u8], past: usize, n: usize) -> bool
     requires { unit_at base n ≤ length s.now }
@@ -55,7 +44,7 @@ fn is_in_order(s: &[u8], base: usize, level: &[u8], past: usize, n: usize) -> bo
         return true;
     }
     let next = forest::level_at(s, base, past, n);
-    is_less(forest::compare(level, next))
+    forest::compare(level, next).is_lt()
 }
 
 // The node of the row may stand where it stands: what it has, and what follows it.

@@ -8,7 +8,7 @@ ghost use Rattle.audit.specs.Tally.{taken, tally};
 
 use crate::placed::row_is_placed;
 use crate::written::{head_at, level_of, row_is_written, text_is_sound};
-use crate::{Head, Left, Tally};
+use crate::{Head, Left};
 use region::Kind;
 
 // The deepest level that a store has.
@@ -29,35 +29,21 @@ fn row_is_sound(s: &[u8], base: usize, kind: Kind, d: usize, i: usize, n: usize,
     row_is_placed(s, base, level, d, i, n, head)
 }
 
-// The cells of a level: none for a wildcard.
-fn cells_of(level: &[u8]) -> usize
-    ensures { result ≡ level_cells level.now }
-{
-    if level::is_only(level, b'+') {
-        return 0;
-    }
-    if level::is_only(level, b'#') {
-        return 0;
-    }
-    let len = level.len();
-    len / 16 + (len % 16 + 15) / 16
-}
-
 // Takes one node, what it holds and the cells of its level from what is left.
-fn take_node(left: Left, level: &[u8], own: usize) -> Tally
+fn take_node(left: Left, level: &[u8], own: usize) -> Option<Left>
     ensures { result ≡ taken left level.now own }
 {
     if left.nodes < 1 {
-        return Tally::Unsound;
+        return None;
     }
     if left.pairs < own {
-        return Tally::Unsound;
+        return None;
     }
-    let cells = cells_of(level);
+    let cells = region::cells_of(level);
     if left.cells < cells {
-        return Tally::Unsound;
+        return None;
     }
-    Tally::Sound(Left {
+    Some(Left {
         nodes: left.nodes - 1,
         pairs: left.pairs - own,
         cells: left.cells - cells,
@@ -74,7 +60,7 @@ pub fn audit_rows(
     lo: usize,
     n: usize,
     promised: Left,
-) -> Tally
+) -> Option<Left>
     requires { (unit_at base n ≤ length s.now) × (64 + n ≤ base) }
     ensures { result ≡ tally kind base s.now d room lo n promised }
 {
@@ -85,32 +71,26 @@ pub fn audit_rows(
         let end = i + (head.len + 23) / 16 + head.own;
         let past = end + head.below;
         if n < past {
-            return Tally::Unsound;
+            return None;
         }
         if DEEPEST < d {
-            return Tally::Unsound;
+            return None;
         }
         if room <= head.len {
-            return Tally::Unsound;
+            return None;
         }
         if !row_is_sound(s, base, kind, d, i, n, head) {
-            return Tally::Unsound;
+            return None;
         }
         let level = level_of(s, base, i, n, head);
-        let Tally::Sound(rest) = take_node(left, level, head.own) else {
-            return Tally::Unsound;
-        };
+        let rest = take_node(left, level, head.own)?;
         if head.below == 0 {
             left = rest;
             i = past;
             continue;
         }
-        let below = audit_rows(s, base, kind, d + 1, room - (head.len + 1), end, past, rest);
-        let Tally::Sound(after) = below else {
-            return Tally::Unsound;
-        };
-        left = after;
+        left = audit_rows(s, base, kind, d + 1, room - (head.len + 1), end, past, rest)?;
         i = past;
     }
-    Tally::Sound(left)
+    Some(left)
 }

@@ -5,9 +5,9 @@ ghost use Rattle.region.specs.Store.{room_at};
 ghost use Rattle.audit.specs.Whole.{mark_of, left_at, none, all_taken, used_fine, header_fine, store_fine};
 ghost use Rattle.audit.specs.Decides.{StoreOf, Decides};
 
+use crate::Left;
 use crate::rows::audit_rows;
-use crate::{Left, Tally};
-use region::{Kind, Size};
+use region::Kind;
 
 // A header's bytes.
 const HEADER: usize = 64;
@@ -65,8 +65,7 @@ fn header_is_sound(s: &[u8], kind: Kind) -> bool
     requires { 64 ≤ length s.now }
     ensures { result ≡ header_fine kind s.now }
 {
-    let size = region::needed(kind, region::capacities_of(s));
-    let Size::Bytes(needed) = size else {
+    let Ok(needed) = region::needed(kind, region::capacities_of(s)) else {
         return false;
     };
     if (s.len() as u64) < needed {
@@ -90,12 +89,12 @@ fn is_none(left: Left) -> bool
 }
 
 // The rows are sound, and nothing of what was promised is left.
-fn is_all_taken(found: Tally) -> bool
+fn is_all_taken(found: Option<Left>) -> bool
     ensures { result ≡ all_taken found }
 {
     match found {
-        Tally::Sound(left) => is_none(left),
-        Tally::Unsound => false,
+        Some(left) => is_none(left),
+        None => false,
     }
 }
 

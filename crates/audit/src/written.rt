@@ -39,19 +39,13 @@ pub fn level_of(s: &[u8], base: usize, i: usize, n: usize, head: Head) -> &[u8]
     &s[from..to]
 }
 
-fn wide(byte: u8) -> usize
-    ensures { (result ≡ byte) × (result < 256) }
-{
-    byte as usize
-}
-
 // The mark of a row's first unit is its depth, the marks of its others are 255.
 fn marks_are_sound(s: &[u8], d: usize, i: usize, end: usize) -> bool
     requires { (i < end) × (64 + end ≤ length s.now) }
     ensures { result ≡ marks_fine s.now d i end }
 {
     let at = MARKS + i;
-    if wide(s[at]) != d {
+    if usize::from(s[at]) != d {
         return false;
     }
     content::all_are(s, 255, at + 1, MARKS + end)

@@ -1,6 +1,9 @@
 -- Demand 3 about the functions that a broker calls, in either form, tested or known: what a listing, a lookup and a page give after a
 -- run; that two runs with the same calls for each pair, or each name, in the same order and none refused for room give the same
 -- bytes; and that the two stores agree. The theorems of `trie`, `retain` and `agree`, said of what C is told. Assumes nothing.
+use Rattle.std.specs.Prelude.{Err, Ok, Result, ⊤}
+use Rattle.refusal.specs.declared.Refusal.{Refusal}
+use Rattle.retain.specs.declared.Page.{Page}
 use mathlib.Core.Path.{◌≡◌, refl, sym, ap, subst, ◌∙◌}
 use Prim.Native.Nat.{ℕ, ◌≤◌}
 use mathlib.Core.Bool.{Bool, true, false, not, cond, ◌||◌, true≢false}
@@ -14,8 +17,6 @@ use Rattle.refusal.specs.declared.Refusal.TheVariants.{BadSize}
 use Rattle.lent.specs.Parts.{part, patch}
 use Rattle.level.specs.Levels.{split}
 use Rattle.topic.specs.Answers.{checked}
-use Rattle.topic.specs.declared.Checked.{Checked}
-use Rattle.topic.specs.declared.Checked.TheVariants.{Accepted, Refused as NotAccepted}
 use Rattle.held.specs.Room.{Room, in_range}
 use Rattle.held.specs.Subscriptions.{Call, SameCalls}
 use Rattle.held.specs.Retained.{Stored, unexpired, Call as Change, SameCalls as SameChanges}
@@ -26,10 +27,8 @@ use Rattle.region.specs.Layout.{needed_bytes, header_bytes}
 use Rattle.region.specs.Opening.{kind_byte, open_rules, nothing, opened_as}
 use Rattle.region.specs.declared.Kind.{Kind}
 use Rattle.region.specs.declared.Kind.TheVariants.{Subscriptions, Retained}
-use Rattle.edit.specs.declared.Changed.{Changed}
-use Rattle.edit.specs.declared.Changed.TheVariants.{Done, Refused}
 use Rattle.edit.specs.declared.Listed.{Listed}
-use Rattle.edit.specs.declared.Listed.TheVariants.{Given, Refused as NotGiven}
+use Rattle.edit.specs.Given.{listed}
 use Rattle.edit.specs.Calls.{StoreKind}
 use Rattle.edit.specs.Runs.{refused_for_room, Runs, Empty}
 use Rattle.edit.specs.Runs.{ended as run-ended, called as run-called}
@@ -38,8 +37,7 @@ use Rattle.edit.proofs.RunLaws.{calls_do}
 use Rattle.trie.specs.Calls.{subscription_store}
 use Rattle.trie.specs.Listings.{Lists, ListsKnown}
 use Rattle.trie.proofs.Demand.{runs_caught, runs_list, opened_empty}
-use Rattle.retain.specs.declared.Paged.{Paged}
-use Rattle.retain.specs.declared.Paged.TheVariants.{Given as PageGiven, Refused as NoPage}
+use Rattle.retain.specs.Lookups.{paged}
 use Rattle.retain.specs.Calls.{retained_store}
 use Rattle.retain.specs.Lookups.{Looks, LooksKnown, page_bytes_given, page_enough_room, Pages, PagesKnown}
 use Rattle.retain.proofs.Demand.{runs_found, runs-paged, runs-look, runs-page, opened_empty as opened-empty-names}
@@ -57,9 +55,9 @@ module _ {A T : Type 0} (of : A → T) {P Q : A → Type 0} (weaker : (r : A) �
   as_known (tested a) = record { answer = a.answer; promised = weaker a.answer a.promised; said = a.said }
 
 -- calls through C are a run
-for-room : (r : Changed) (w : Told) → w ≡ of_changed r → no_room w ≡ false → refused_for_room r ≡ false
-for-room (Done n) w e h = refl
-for-room (Refused x) w e h = ap no_room (sym e) ∙ h
+for-room : (r : Result ℕ Refusal) (w : Told) → w ≡ of_changed r → no_room w ≡ false → refused_for_room r ≡ false
+for-room (Ok n) w e h = refl
+for-room (Err x) w e h = ap no_room (sym e) ∙ h
 
 pub made_runs : {C H : Type 0} (k : StoreKind C H) {cs : List C} {s t : List ℕ} → Made k cs s t → Runs k cs s t
 made_runs k ended = run-ended
@@ -71,7 +69,7 @@ made_runs k (called {w = w} a n rest) =
 opened_long : (r : Room) (s : List ℕ) → of_checked (checked (open_rules r s)) ≡ (0 at 0) → (in_range r ≡ true) × (needed_bytes r ≤ length s)
 opened_long r s e = go (in_range r) refl (ltb (length s) (needed_bytes r)) refl e
   where
-    go : (i : Bool) → in_range r ≡ i → (l : Bool) → ltb (length s) (needed_bytes r) ≡ l → of_checked (cond (not i || l) (NotAccepted BadSize) Accepted) ≡ (0 at 0) → (in_range r ≡ true) × (needed_bytes r ≤ length s)
+    go : (i : Bool) → in_range r ≡ i → (l : Bool) → ltb (length s) (needed_bytes r) ≡ l → of_checked (cond (not i || l) (Err BadSize) (Ok tt)) ≡ (0 at 0) → (in_range r ≡ true) × (needed_bytes r ≤ length s)
     go true a false b e = (a, ltb-false (length s) (needed_bytes r) b)
     go true a true b e = absurd (true≢false (ap (λ (t : Told). eqb t.number 10) e))
     go false a l b e = absurd (true≢false (ap (λ (t : Told). eqb t.number 10) e))
@@ -79,9 +77,9 @@ opened_long r s e = go (in_range r) refl (ltb (length s) (needed_bytes r)) refl 
 opened-as : (kind : Kind) (r : Room) (s : List ℕ) → of_checked (checked (open_rules r s)) ≡ (0 at 0) → opened_as (checked (open_rules r s)) kind r s ≡ patch 0 (header_bytes (kind_byte kind) r nothing) s
 opened-as kind r s e = go (checked (open_rules r s)) e
   where
-    go : (v : Checked) → of_checked v ≡ (0 at 0) → opened_as v kind r s ≡ patch 0 (header_bytes (kind_byte kind) r nothing) s
-    go Accepted e = refl
-    go (NotAccepted x) e = absurd (true≢false (sym (ap (λ (t : Told). eqb t.number 0) e) ∙ number_some x))
+    go : (v : Result ⊤ Refusal) → of_checked v ≡ (0 at 0) → opened_as v kind r s ≡ patch 0 (header_bytes (kind_byte kind) r nothing) s
+    go (Ok _) e = refl
+    go (Err x) e = absurd (true≢false (sym (ap (λ (t : Told). eqb t.number 0) e) ∙ number_some x))
 
 opened-subscriptions : {s : List ℕ} → Opened Subscriptions s → Empty subscription_store s
 opened-subscriptions o =
@@ -94,20 +92,20 @@ opened-retained o =
     rw (o.left ∙ opened-as Retained o.room o.lent o.returned) (opened-empty-names o.room o.lent l.0 l.1)
 
 -- an answer of which 0 was told, and what is told of an answer
-given-told : (r : Listed) {bytes records : ℕ} → (0 at bytes, records) ≡ of_listed r → r ≡ Given bytes records
-given-told (Given b n) {bytes} {records} e =
-    let x : bytes ≡ b = ap (λ (w : Told × ℕ). w.0.place) e in
-    let y : records ≡ n = ap (λ (w : Told × ℕ). w.1) e in
+given-told : (r : Result Listed Refusal) {bytes records : ℕ} → (0 at bytes, records) ≡ of_listed r → r ≡ listed bytes records
+given-told (Ok l) {bytes} {records} e =
+    let x : bytes ≡ l.bytes = ap (λ (w : Told × ℕ). w.0.place) e in
+    let y : records ≡ l.records = ap (λ (w : Told × ℕ). w.1) e in
     rw (x, y)
-given-told (NotGiven x) e = absurd (true≢false (ap (λ (w : Told × ℕ). eqb w.0.number 0) e ∙ number_some x))
+given-told (Err x) e = absurd (true≢false (ap (λ (w : Told × ℕ). eqb w.0.number 0) e ∙ number_some x))
 
-room-told : (r : Listed) → enough_room r ≡ not (too_short (of_listed r).0)
-room-told (Given b n) = refl
-room-told (NotGiven x) = refl
+room-told : (r : Result Listed Refusal) → enough_room r ≡ not (too_short (of_listed r).0)
+room-told (Ok l) = refl
+room-told (Err x) = refl
 
-bytes-told : (r : Listed) (after : List ℕ) → bytes_given (of_listed r).0 after ≡ given_bytes r after
-bytes-told (Given b n) after = refl
-bytes-told (NotGiven x) after = rw (number_some x)
+bytes-told : (r : Result Listed Refusal) (after : List ℕ) → bytes_given (of_listed r).0 after ≡ given_bytes r after
+bytes-told (Ok l) after = refl
+bytes-told (Err x) after = rw (number_some x)
 
 -- two answers that are the same where both buffers have room, or neither has, by what is told of them
 module _ {A T : Type 0} (of : A → T) (first : T → Told) (enough : A → Bool) (gave : A → List ℕ → List ℕ) (room : (r : A) → enough r ≡ not (too_short (first (of r))))
@@ -141,25 +139,25 @@ module _ {cs : List Call} {s t : List ℕ} (o : Opened Subscriptions s) (x : Mad
         (λ r q. runs_list (opened-subscriptions o) (opened-subscriptions p) (made_runs subscription_store x) (made_runs subscription_store y) same name)
 
 -- Retained names
-page-told : (r : Paged) {bytes records follows : ℕ} → (0 at bytes, records, follows) ≡ of_paged r → r ≡ PageGiven bytes records (eqb follows 1)
-page-told (PageGiven b n m) {bytes} {records} {follows} e =
-    let x : bytes ≡ b = ap (λ (w : Told × ℕ × ℕ). w.0.place) e in
-    let y : records ≡ n = ap (λ (w : Told × ℕ × ℕ). w.1) e in
-    let z : follows ≡ cond m 1 0 = ap (λ (w : Told × ℕ × ℕ). w.2) e in
-    rw (x, y, z, one m)
+page-told : (r : Result Page Refusal) {bytes records follows : ℕ} → (0 at bytes, records, follows) ≡ of_paged r → r ≡ paged bytes records (eqb follows 1)
+page-told (Ok p) {bytes} {records} {follows} e =
+    let x : bytes ≡ p.bytes = ap (λ (w : Told × ℕ × ℕ). w.0.place) e in
+    let y : records ≡ p.records = ap (λ (w : Told × ℕ × ℕ). w.1) e in
+    let z : follows ≡ cond p.more 1 0 = ap (λ (w : Told × ℕ × ℕ). w.2) e in
+    rw (x, y, z, one p.more)
   where
     one : (m : Bool) → eqb (cond m 1 0) 1 ≡ m
     one true = refl
     one false = refl
-page-told (NoPage x) e = absurd (true≢false (ap (λ (w : Told × ℕ × ℕ). eqb w.0.number 0) e ∙ number_some x))
+page-told (Err x) e = absurd (true≢false (ap (λ (w : Told × ℕ × ℕ). eqb w.0.number 0) e ∙ number_some x))
 
-page_room-told : (r : Paged) → page_enough_room r ≡ not (too_short (of_paged r).0)
-page_room-told (PageGiven b n m) = refl
-page_room-told (NoPage x) = refl
+page_room-told : (r : Result Page Refusal) → page_enough_room r ≡ not (too_short (of_paged r).0)
+page_room-told (Ok p) = refl
+page_room-told (Err x) = refl
 
-page-bytes-told : (r : Paged) (after : List ℕ) → bytes_given (of_paged r).0 after ≡ page_bytes_given r after
-page-bytes-told (PageGiven b n m) after = refl
-page-bytes-told (NoPage x) after = rw (number_some x)
+page-bytes-told : (r : Result Page Refusal) (after : List ℕ) → bytes_given (of_paged r).0 after ≡ page_bytes_given r after
+page-bytes-told (Ok p) after = refl
+page-bytes-told (Err x) after = rw (number_some x)
 
 module _ {cs : List Change} {s t : List ℕ} (o : Opened Retained s) (x : Made retained_store cs s t) where
   -- which names a lookup and a page have: exactly those that the calls left held, that have not expired, and that the filter takes

@@ -7,7 +7,7 @@ ghost use Rattle.region.specs.Opening.{room_of, needed_of, open_rules, opened_as
 ghost use Rattle.cjumbradi.specs.Calls.{of_checked};
 ghost use Rattle.cjumbradi.specs.Regions.{room_for, of_size};
 
-use crate::telling::{tell_checked, tell_size};
+use crate::telling::{tell_changed, tell_checked};
 use region::{Capacities, Cells, Kind, Nodes, Pairs};
 
 fn capacities(nodes: u64, pairs: u64, cells: u64) -> Capacities
@@ -24,7 +24,7 @@ fn capacities(nodes: u64, pairs: u64, cells: u64) -> Capacities
 pub fn cjumbradi_needed(nodes: u64, pairs: u64, cells: u64, bytes: &mut u64) -> u64
     ensures { (result at bytes.new) ≡ of_size (needed_of (room_for nodes pairs cells)) }
 {
-    tell_size(
+    tell_changed(
         region::needed(Kind::Subscriptions, capacities(nodes, pairs, cells)),
         bytes,
     )

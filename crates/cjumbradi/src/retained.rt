@@ -10,17 +10,13 @@ ghost use Rattle.retain.specs.Lookups.{Looks, Pages};
 ghost use Rattle.cjumbradi.specs.Stores.{of_changed, of_listed, of_paged, of_outcome, Tells};
 ghost use Rattle.cjumbradi.specs.Moments.{given_moment};
 
-use crate::telling::{tell_changed, tell_listed, tell_names, tell_paged};
-use retain::Moment;
+use crate::telling::{tell_changed, tell_listed, tell_paged, tell_pairs};
 
 // A moment as a caller gives it.
-pub fn moment_given(expires: u64, moment: u64) -> Moment
+pub fn moment_given(expires: u64, moment: u64) -> Option<u64>
     ensures { result ≡ given_moment expires moment }
 {
-    if expires == 0 {
-        return Moment::Never;
-    }
-    Moment::At(moment)
+    if expires == 0 { None } else { Some(moment) }
 }
 
 pub fn cjumbradi_set(
@@ -76,5 +72,5 @@ pub fn cjumbradi_sweep(region: &mut [u8], clock: u64, removed: &mut u64) -> u64
 pub fn cjumbradi_count(region: &[u8], value: &mut u64) -> u64
     ensures { Tells of_outcome (Counts (RetainedStore region.now) (length (held_in region.now))) (result at value.new) }
 {
-    tell_names(retain::count(region), value)
+    tell_pairs(retain::count(region), value)
 }

@@ -11,7 +11,7 @@ ghost use Rattle.edit.specs.Counts.{Counts};
 ghost use Rattle.cjumbradi.specs.Calls.{of_matched};
 ghost use Rattle.cjumbradi.specs.Stores.{of_changed, of_listed, of_outcome, Tells};
 
-use crate::telling::{tell_changed, tell_listed, tell_matched, tell_nodes, tell_values};
+use crate::telling::{tell_changed, tell_listed, tell_matched, tell_nodes, tell_pairs};
 
 pub fn cjumbradi_insert(region: &mut [u8], filter: &[u8], value: u32, answer: &mut u64) -> u64
     ensures { Tells of_changed (Calls subscription_store (insert filter.now value) region.old region.new) (result at answer.new) }
@@ -52,5 +52,5 @@ pub fn cjumbradi_nodes_size(region: &[u8], value: &mut u64) -> u64
 pub fn cjumbradi_values_size(region: &[u8], value: &mut u64) -> u64
     ensures { Tells of_outcome (Counts (SubscriptionStore region.now) (length (held_in region.now))) (result at value.new) }
 {
-    tell_values(trie::values_size(region), value)
+    tell_pairs(trie::values_size(region), value)
 }

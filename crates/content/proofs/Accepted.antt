@@ -1,4 +1,5 @@
 -- When levels are those of an accepted text: each level is fine, and they are neither too many nor too long. Assumes nothing.
+use Rattle.std.specs.Prelude.{Ok}
 use mathlib.Core.Path.{◌≡◌, refl, sym, ap, subst, ◌∙◌}
 use Prim.Native.Nat.{ℕ, ◌+◌, ◌-◌, ◌≤◌}
 use mathlib.Core.Bool.{Bool, true, false, not, ◌&&◌, true≢false}
@@ -13,7 +14,6 @@ use Rattle.level.specs.Kinds.{blank, wild, bad}
 use Rattle.level.proofs.Join.{join-split, split-join, clean-split}
 use Rattle.topic.specs.Rules.{Rule, ◌gives◌, index, filter_rules, name_rules}
 use Rattle.topic.specs.Answers.{checked}
-use Rattle.topic.specs.declared.Checked.TheVariants.{Accepted}
 use Rattle.held.specs.Order.{Level, Filter}
 use Rattle.held.specs.Edit.{HashLast}
 use Rattle.held.specs.History.{accepted}
@@ -51,7 +51,7 @@ fine_parts k f e = go (all is_utf8 f) (all (λ l. not (has 0 l)) f) (all (λ l. 
         record { utf8 = p ∙ and_left a (b && (c && d)) h; nul = q ∙ and_left b (c && d) u; slash = r ∙ and_left c d w; free = t ∙ and_right c d w }
 
 -- rules that are kept accept
-accepts : (rules : List Rule) → Kept rules → checked rules ≡ Accepted
+accepts : (rules : List Rule) → Kept rules → checked rules ≡ Ok tt
 accepts [] h = refl
 accepts ((broken gives r) ∷ rules) h = rw h.0 (accepts rules h.1)
 
@@ -124,7 +124,7 @@ accepted_text k f a = go k f a.text a.levels a.fine a.depth
           (λ (q : l ∷ f ≡ [] ∷ []). true≢false (sym (ap (λ (x : Filter). blank (join x)) q) ∙ ap blank j ∙ b)),
         )
 
-    go : (k : Kind) (f : Filter) (s : List ℕ) → split s ≡ f → checked (rules_of k s) ≡ Accepted → length f ≤ 128 → LevelsFine k 1 65536 f × (f ≡ [] ∷ [] → ⊥)
+    go : (k : Kind) (f : Filter) (s : List ℕ) → split s ≡ f → checked (rules_of k s) ≡ Ok tt → length f ≤ 128 → LevelsFine k 1 65536 f × (f ≡ [] ∷ [] → ⊥)
     go k [] s e h d = absurd (some_levels s e)
     go Subscriptions (l ∷ f) s e h d =
         let r = kept (filter_rules s) (ap accepted h) in
@@ -158,7 +158,7 @@ text-accepted k l f r h g = record { text = join (l ∷ f); levels = split-join 
     whole : split (join (l ∷ f)) ≡ l ∷ f
     whole = split-join l f clean
 
-    fine : (j : Kind) → j ≡ k → checked (rules_of j (join (l ∷ f))) ≡ Accepted
+    fine : (j : Kind) → j ≡ k → checked (rules_of j (join (l ∷ f))) ≡ Ok tt
     fine Subscriptions e =
         accepts (filter_rules (join (l ∷ f))) (
           blank_join l f h,

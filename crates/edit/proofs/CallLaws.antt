@@ -1,4 +1,6 @@
 -- A call that tests the region first. Assumes nothing.
+use Rattle.std.specs.Prelude.{Err, Result}
+use Rattle.refusal.specs.declared.Refusal.{Refusal}
 use mathlib.Core.Path.{◌≡◌, refl, sym, ◌∙◌}
 use mathlib.Core.Bool.{Bool, true, false, not, true≢false}
 use mathlib.Core.List.{List}
@@ -6,8 +8,6 @@ use Prim.Native.Nat.{ℕ}
 use borrow.Author.Tests.{not-true, not-false}
 use Rattle.refusal.specs.declared.Refusal.TheVariants.{NotAStore}
 use Rattle.audit.specs.Decides.{Decides}
-use Rattle.edit.specs.declared.Changed.{Changed}
-use Rattle.edit.specs.declared.Changed.TheVariants.{Refused}
 use Rattle.edit.specs.Calls.{StoreKind, Calls, Does}
 
 -- the test's answer, as code asks for it
@@ -19,8 +19,8 @@ module _ {P : Type 0} {t : Bool} (d : Decides t P) where
   one h = d.yes (not-false t h)
 
 module _ {C H : Type 0} (k : StoreKind C H) (call : C) (s : List ℕ) {t : Bool} (d : Decides t (k.Store s)) where
-  pub not_a_store : not t ≡ true → Calls k call s s (Refused NotAStore)
+  pub not_a_store : not t ≡ true → Calls k call s s (Err NotAStore)
   not_a_store h = record { on_store = λ (st : k.Store s). absurd (none d h st); on_other = λ (n : k.Store s → ⊥). (refl, refl) }
 
-  pub store_does : not t ≡ false → {u : List ℕ} {r : Changed} → Does k call s u r → Calls k call s u r
+  pub store_does : not t ≡ false → {u : List ℕ} {r : Result ℕ Refusal} → Does k call s u r → Calls k call s u r
   store_does h a = record { on_store = λ (st : k.Store s). a.does st; on_other = λ (n : k.Store s → ⊥). absurd (n (one d h)) }

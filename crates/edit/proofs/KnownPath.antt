@@ -1,4 +1,5 @@
 -- A region that holds a forest, and the path of a text in it: what the calls that change a store know. Assumes nothing.
+use Rattle.std.specs.Prelude.{Some, Err, None, Option}
 use mathlib.Core.Path.{◌≡◌, sym, subst, ◌∙◌}
 use mathlib.Core.Bool.{false}
 use mathlib.Core.List.{List, [], ◌∷◌, ◌++◌}
@@ -13,7 +14,6 @@ use Rattle.level.specs.Places.{first}
 use Rattle.level.proofs.Split.{split_cons, after}
 use Rattle.topic.specs.Rules.{Rule}
 use Rattle.topic.specs.Answers.{checked}
-use Rattle.topic.specs.declared.Checked.TheVariants.{Refused as NotAccepted}
 use Rattle.held.specs.Order.{Filter}
 use Rattle.held.specs.Room.{level_cells, full_rules, depth_rule}
 use Rattle.held.specs.Forest.{Forest, held}
@@ -24,7 +24,6 @@ use Rattle.region.specs.Layout.{unit_room, units_f}
 use Rattle.region.specs.Forms.{Form}
 use Rattle.region.specs.Store.{room_at}
 use Rattle.region.specs.declared.Shape.{Shape}
-use Rattle.region.specs.declared.Shape.TheVariants.{Units, Not}
 use Rattle.region.specs.Shapes.{NoUnits, UnitsOf, ShapeOf}
 use Rattle.region.proofs.CountLaws.{nodes_kept, pairs_kept, cells_kept}
 use Rattle.forest.specs.Stands.{Stands}
@@ -46,15 +45,15 @@ pub depth-first : (f : List ℕ) → length (split f) ≤ 128 → (rules : List 
 unfolding depth_rule
 depth-first f few rules = rw (le-ltb 128 (length (split f)) few)
 
-pub deep_rule : (f : List ℕ) (rules : List Rule) → 128 < length (split f) → checked (depth_rule f ∷ rules) ≡ NotAccepted TooDeep
+pub deep_rule : (f : List ℕ) (rules : List Rule) → 128 < length (split f) → checked (depth_rule f ∷ rules) ≡ Err TooDeep
 unfolding depth_rule
 deep_rule f rules h = rw (lt-ltb 128 (length (split f)) h)
 
 -- the header, told as a shape: of a region that holds a forest it is units
-pub units-told : {s : List ℕ} {r : Shape} {base n room : ℕ} → ShapeOf s r → r ≡ Units base n room → UnitsOf s base n room
+pub units-told : {s : List ℕ} {r : Option Shape} {u : Shape} → ShapeOf s r → r ≡ Some u → UnitsOf s u.base u.used u.room
 units-told {s} h e = subst (ShapeOf s) e h
 
-pub no_units-told : {X : Type 0} (u : Form X) (kind : ℕ) (s : List ℕ) (F : Forest X) → Holds u kind s F → {r : Shape} → ShapeOf s r → r ≡ Not → ⊥
+pub no_units-told : {X : Type 0} (u : Form X) (kind : ℕ) (s : List ℕ) (F : Forest X) → Holds u kind s F → {r : Option Shape} → ShapeOf s r → r ≡ None → ⊥
 no_units-told u kind s F h w e =
     let q : NoUnits s = subst (ShapeOf s) e w in
     q.none h.written.long (omega (arith, used_is u kind s F h.written h.rows h.full, units-within u kind s F h))

@@ -1,15 +1,12 @@
 -- A run of calls on a region leaves held what the history of its calls says. Assumes nothing.
+use Rattle.std.specs.Prelude.{Err, Ok, Result, ⊤}
 use mathlib.Core.Path.{◌≡◌, refl, sym, ap, ◌∙◌}
 use mathlib.Core.Bool.{true, false, not}
 use mathlib.Core.List.{List, [], ◌∷◌}
 use Prim.Native.Nat.{ℕ}
 use Rattle.refusal.specs.declared.Refusal.{Refusal}
-use Rattle.topic.specs.declared.Checked.{Checked}
-use Rattle.topic.specs.declared.Checked.TheVariants.{Accepted, Refused as NotAccepted}
 use Rattle.held.specs.History.{Effect, refused, outcome_of, outcome, verdict, result, run, for_room, has_room}
 use Rattle.region.specs.Store.{room_at}
-use Rattle.edit.specs.declared.Changed.{Changed}
-use Rattle.edit.specs.declared.Changed.TheVariants.{Done, Refused}
 use Rattle.edit.specs.Calls.{StoreKind, told_as, Step, Calls, Does}
 use Rattle.edit.specs.Runs.{refused_for_room, Runs, ended, called, Empty}
 use Rattle.held.proofs.Orders.{and_both}
@@ -18,14 +15,14 @@ pub same_refusal : {a b : Refusal} → refused a ≡ refused b → a ≡ b
 same_refusal e = cc
 
 -- the verdict was for room exactly where the answer says so
-not_for_room : {H : Type 0} (e : Effect H) (r : Changed) → told_as r ≡ outcome e → refused_for_room r ≡ false → for_room (verdict e) ≡ false
+not_for_room : {H : Type 0} (e : Effect H) (r : Result ℕ Refusal) → told_as r ≡ outcome e → refused_for_room r ≡ false → for_room (verdict e) ≡ false
 unfolding outcome
 not_for_room e r h q = go (verdict e) refl r h q
   where
-    go : (v : Checked) → verdict e ≡ v → (r : Changed) → told_as r ≡ outcome_of v e.answer → refused_for_room r ≡ false → for_room v ≡ false
-    go Accepted z r h q = refl
-    go (NotAccepted x) z (Done n) h q = cc
-    go (NotAccepted x) z (Refused y) h q = ap (λ (a : Refusal). for_room (NotAccepted a)) (sym (same_refusal h)) ∙ q
+    go : (v : Result ⊤ Refusal) → verdict e ≡ v → (r : Result ℕ Refusal) → told_as r ≡ outcome_of v e.answer → refused_for_room r ≡ false → for_room v ≡ false
+    go (Ok _) z r h q = refl
+    go (Err x) z (Ok n) h q = cc
+    go (Err x) z (Err y) h q = ap (λ (a : Refusal). for_room (Err a)) (sym (same_refusal h)) ∙ q
 
 pub record RunHolds {C H : Type 0} (k : StoreKind C H) (cs : List C) (s t : List ℕ) : Type 0 where
   pub store : k.Store t
@@ -33,7 +30,7 @@ pub record RunHolds {C H : Type 0} (k : StoreKind C H) (cs : List C) (s t : List
   pub roomy : has_room k.effect (room_at s) cs (k.held_in s) ≡ true
 
 module _ {C H : Type 0} (k : StoreKind C H) where
-  on : (c : C) (cs : List C) (s t u : List ℕ) (r : Changed) → Step k c s t r → refused_for_room r ≡ false → RunHolds k cs t u → RunHolds k (c ∷ cs) s u
+  on : (c : C) (cs : List C) (s t u : List ℕ) (r : Result ℕ Refusal) → Step k c s t r → refused_for_room r ≡ false → RunHolds k cs t u → RunHolds k (c ∷ cs) s u
   on c cs s t u r a q b =
       let e : Effect H = k.effect (room_at s) c (k.held_in s) in
       let f : for_room (verdict e) ≡ false = not_for_room e r a.told q in
@@ -46,7 +43,7 @@ module _ {C H : Type 0} (k : StoreKind C H) where
   run_holds st (called {c = c} {cs = cs} {s = s} {t = t} {u = u} {r = r} a q rest) = let b = a.does st in on c cs s t u r b q (run_holds b.store rest)
 
 -- a call that tests the region does on a store what the one does that does not
-pub calls_do : {C H : Type 0} (k : StoreKind C H) {c : C} {s t : List ℕ} {r : Changed} → Calls k c s t r → Does k c s t r
+pub calls_do : {C H : Type 0} (k : StoreKind C H) {c : C} {s t : List ℕ} {r : Result ℕ Refusal} → Calls k c s t r → Does k c s t r
 calls_do k a = record { does = a.on_store }
 
 -- what a run makes of a store that holds nothing

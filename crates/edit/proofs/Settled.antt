@@ -1,15 +1,14 @@
 -- No second outcome meets a promise of `Calls`, `Gives` or `Counts`: on a store it is what `held` says, and on any other region it is
 -- 11 with nothing changed. That a region is the one or the other is the test of `audit`. Assumes nothing.
+use Rattle.std.specs.Prelude.{Err, Ok, Result, ⊤}
+use Rattle.refusal.specs.declared.Refusal.{Refusal}
 use mathlib.Core.Path.{◌≡◌, refl, sym, ap, ◌∙◌}
 use Prim.Native.Nat.{ℕ}
 use mathlib.Core.Bool.{Bool, true, false, true≢false}
 use mathlib.Core.List.{List}
 use Rattle.topic.specs.Rules.{Rule}
-use Rattle.topic.specs.declared.Checked.{Checked}
 use Rattle.held.specs.History.{Outcome, answered}
 use Rattle.audit.specs.Decides.{Decides, Decided}
-use Rattle.edit.specs.declared.Changed.{Changed}
-use Rattle.edit.specs.declared.Changed.TheVariants.{Done, Refused}
 use Rattle.edit.specs.Calls.{StoreKind, told_as, Step, Calls, Does}
 use Rattle.edit.specs.Counts.{Counts}
 use Rattle.edit.specs.Given.{GivesKnown, Gives}
@@ -28,13 +27,13 @@ pub same_answer : {n m : ℕ} → answered n ≡ answered m → n ≡ m
 same_answer e = cc
 
 -- an answer is known by what is told of it
-told_once : (r q : Changed) → told_as r ≡ told_as q → r ≡ q
-told_once (Done n) (Done m) e = ap Done (same_answer e)
-told_once (Refused x) (Refused y) e = ap Refused (same_refusal e)
-told_once (Done n) (Refused y) e = cc
-told_once (Refused x) (Done m) e = cc
+told_once : (r q : Result ℕ Refusal) → told_as r ≡ told_as q → r ≡ q
+told_once (Ok n) (Ok m) e = ap Ok (same_answer e)
+told_once (Err x) (Err y) e = ap Err (same_refusal e)
+told_once (Ok n) (Err y) e = cc
+told_once (Err x) (Ok m) e = cc
 
-module _ {C H : Type 0} (k : StoreKind C H) (call : C) (s : List ℕ) {t u : List ℕ} {r q : Changed} where
+module _ {C H : Type 0} (k : StoreKind C H) (call : C) (s : List ℕ) {t u : List ℕ} {r q : Result ℕ Refusal} where
   -- a call on a store
   step_settled : Step k call s t r → Step k call s u q → (r ≡ q) × Same k t u
   step_settled a b = (
@@ -48,7 +47,7 @@ module _ {C H : Type 0} (k : StoreKind C H) (call : C) (s : List ℕ) {t u : Lis
       store-or-none d (λ st. step_settled (x.on_store st) (y.on_store st))
       (λ no. other (x.on_other no) (y.on_other no))
     where
-      other : {z : Changed} → (r ≡ z) × (t ≡ s) → (q ≡ z) × (u ≡ s) → (r ≡ q) × Same k t u
+      other : {z : Result ℕ Refusal} → (r ≡ z) × (t ≡ s) → (q ≡ z) × (u ≡ s) → (r ≡ q) × Same k t u
       other a b = (a.0 ∙ sym b.0, rw (a.1, b.1) (record { alike = (λ st. st, λ st. st); held = refl; room = refl; size = refl }))
 
   -- a call that does not test the region, where it is given a store
@@ -56,7 +55,7 @@ module _ {C H : Type 0} (k : StoreKind C H) (call : C) (s : List ℕ) {t u : Lis
   does_settled st x y = step_settled (x.does st) (y.does st)
 
 -- a call that writes records: its answer, and every byte of the buffer
-module _ {A Store : Type 0} {rules : List Rule} {answer : Checked → A} {out before after after' : List ℕ} {r q : A} where
+module _ {A Store : Type 0} {rules : List Rule} {answer : Result ⊤ Refusal → A} {out before after after' : List ℕ} {r q : A} where
   pub given_settled : Store → GivesKnown Store rules answer out before after r → GivesKnown Store rules answer out before after' q → (r ≡ q) × (after ≡ after')
   given_settled st x y = (x.told st ∙ sym (y.told st), x.given st ∙ sym (y.given st))
 

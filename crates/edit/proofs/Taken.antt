@@ -1,5 +1,7 @@
 -- What is held once a unit was taken from a node, or the nodes that go with it: the change that the code makes, in the words of the
 -- forest. Assumes nothing.
+use Rattle.std.specs.Prelude.{Ok, Result}
+use Rattle.refusal.specs.declared.Refusal.{Refusal}
 use mathlib.Core.Path.{◌≡◌, sym, ap, subst, ◌∙◌}
 use mathlib.Core.Bool.{true, false, ◌&&◌, true≢false}
 use mathlib.Core.List.{List, [], ◌∷◌, ◌++◌}
@@ -39,8 +41,6 @@ use Rattle.change.proofs.EditLaws.{Becomes}
 use Rattle.change.proofs.PathEdits.{less_reached, cut_reached}
 use Rattle.change.proofs.CutLaws.{cut_plug, cut_changes}
 use Rattle.change.proofs.FoundLaws.{Cuts, goes, GoesHere, cuts, none_units, leaf_units}
-use Rattle.edit.specs.declared.Changed.{Changed}
-use Rattle.edit.specs.declared.Changed.TheVariants.{Done}
 use Rattle.edit.specs.Taking.{alone_in, Taken, no_units, taken, PathTaken, OneLess}
 use Rattle.edit.proofs.LastLaws.{Last, last_end, last_past, last_count, last_inside}
 use Rattle.edit.proofs.KnownPath.{base_is, all_is, stands, path, last, node_is, downs_are}
@@ -101,8 +101,8 @@ module _ {X : Type 0} (u : Form X) (kind : ℕ) (s : List ℕ) {base n room : �
       inside_at : ahead l.way + level_units l.level + length a < n
       inside_at = omega (arith, last_inside u base s n F (stands u kind s units F h) (split f) l, ap length all, length-append a (x ∷ b))
 
-      pub unit-gone : (P : List ℕ → Changed → Type 0) {answer : ℕ} → ((t : List ℕ) → Becomes u kind s t (cut_f e (split f) F) → P t (Done answer)) → {node at : ℕ} → node ≡ ahead l.way
-          → at ≡ ahead l.way + level_units l.level + length a → {t : List ℕ} {r : Changed} → OneLess s base n (take (p.depth - 1) p.nodes) node at answer t r → P t r
+      pub unit-gone : (P : List ℕ → Result ℕ Refusal → Type 0) {answer : ℕ} → ((t : List ℕ) → Becomes u kind s t (cut_f e (split f) F) → P t (Ok answer)) → {node at : ℕ} → node ≡ ahead l.way
+          → at ≡ ahead l.way + level_units l.level + length a → {t : List ℕ} {r : Result ℕ Refusal} → OneLess s base n (take (p.depth - 1) p.nodes) node at answer t r → P t r
       unit-gone P done y z (no_units g) = absurd (omega (arith, inside_at, z))
       unit-gone P done {node} {at} y z (taken g) =
           done (taken_unit base n (take (p.depth - 1) p.nodes) node at s) (subst (λ (i : ℕ). Becomes u kind s (taken_unit base n (take (p.depth - 1) p.nodes) node i s) (cut_f e (split f) F)) (sym z) (becomes-less y))
@@ -144,10 +144,10 @@ module _ {X : Type 0} (u : Form X) (kind : ℕ) (s : List ℕ) {base n room : �
             let node = fork cut.level cut.own cut.kids cut.next in
             omega (arith, all_is u kind s units F h, ap units_f (cut_plug e cut.is), units_plug cut.way node, wide_ahead cut.way (units_f node), (cut_changes e cut.is load wanted).units_change)
 
-      pub path-gone : (P : List ℕ → Changed → Type 0) {answer : ℕ} → ((t : List ℕ) → Becomes u kind s t (cut_f e (split f) F) → P t (Done answer)) → {t : List ℕ} {r : Changed} → PathTaken s base n p.nodes p.depth f answer t r → P t r
+      pub path-gone : (P : List ℕ → Result ℕ Refusal → Type 0) {answer : ℕ} → ((t : List ℕ) → Becomes u kind s t (cut_f e (split f) F) → P t (Ok answer)) → {t : List ℕ} {r : Result ℕ Refusal} → PathTaken s base n p.nodes p.depth f answer t r → P t r
       path-gone P {answer} done a = go a.load a.wanted a.takes
         where
-          go : (load : Load) → WantedFor (levels_at f (start_of f stay)) load → {t : List ℕ} {r : Changed}
+          go : (load : Load) → WantedFor (levels_at f (start_of f stay)) load → {t : List ℕ} {r : Result ℕ Refusal}
               → Taken s n (get_or p.nodes stay 0 + load.units) answer (taken_chain base n (take stay p.nodes) (get_or p.nodes stay 0) load s) t r → P t r
           go load w (no_units g) = absurd (omega (arith, inside-run load w, at_is))
           go load w (taken g) = done (taken_chain base n (take stay p.nodes) (get_or p.nodes stay 0) load s) (becomes_cut load w)

@@ -6,11 +6,9 @@ ghost use Rattle.seek.specs.PathFound.{PathFound};
 ghost use Rattle.room.specs.Changes.{Under, made_unit};
 ghost use Rattle.edit.specs.Adding.{Added, ChainAdded};
 
-use crate::Changed;
 use refusal::Refusal;
 use region::{Cells, Nodes, Pairs};
 use seek::Path;
-use topic::Checked;
 
 // A unit before unit `at`, for the node at unit `node`, which stands below `last` nodes.
 pub fn add_unit(
@@ -23,19 +21,16 @@ pub fn add_unit(
     node: usize,
     at: usize,
     unit: &[u8],
-) -> Changed
+) -> Result<u64, Refusal>
     requires { UnitsOf s.old base n room × (last ≤ 128) × Under n (take last nodes) × (node < n) × (at ≤ n) × (length unit.now ≡ 16) }
     ensures { Added s.old n room 0 0 1 (made_unit base n (take last nodes) node at unit.now s.old) s.new result }
 {
-    let fit = region::room_for(s, region::capacities_of(s), Nodes(0), Pairs(1), Cells(0));
-    if let Checked::Refused(r) = fit {
-        return Changed::Refused(r);
-    }
+    region::room_for(s, region::capacities_of(s), Nodes(0), Pairs(1), Cells(0))?;
     if room < n + 1 {
-        return Changed::Refused(Refusal::NotAStore);
+        return Err(Refusal::NotAStore);
     }
     room::make_unit(s, base, n, nodes, last, node, at, unit);
-    Changed::Done(1)
+    Ok(1)
 }
 
 // New nodes for the levels of a text that are missing, of which the last holds a unit.
@@ -47,27 +42,24 @@ pub fn add_chain(
     p: Path,
     text: &[u8],
     unit: &[u8],
-) -> Changed
+) -> Result<u64, Refusal>
     requires { UnitsOf s.old base n room × PathFound base s.old n text.now p × (length text.now ≤ 65535) × (length (split text.now) ≤ 128) × (length unit.now ≡ 16) }
     ensures { ChainAdded s.old base n room p text.now unit.now s.new result }
 {
     let from = p.from;
     let load = room::wanted_for(text, from);
     let units = load.units;
-    let fit = region::room_for(
+    region::room_for(
         s,
         region::capacities_of(s),
         Nodes(load.nodes as u64),
         Pairs(1),
         Cells(load.cells as u64),
-    );
-    if let Checked::Refused(r) = fit {
-        return Changed::Refused(r);
-    }
+    )?;
     if room - n < units {
-        return Changed::Refused(Refusal::NotAStore);
+        return Err(Refusal::NotAStore);
     }
     let nodes = p.nodes;
     room::make_chain(s, base, n, nodes, p.depth, p.place, text, from, unit, load);
-    Changed::Done(1)
+    Ok(1)
 }

@@ -8,19 +8,11 @@ mod adding;
 mod taking;
 
 pub use adding::{add_chain, add_unit};
-use refusal::Refusal;
 pub use taking::{is_alone, take_path, take_unit};
 
-// What a change answers: a number, or the refusal.
+// What a listing or a lookup has: so many bytes and records.
 #[derive(Clone, Copy)]
-pub enum Changed {
-    Done(u64),
-    Refused(Refusal),
-}
-
-// What a listing or a lookup answers: how many bytes and records it has, or the refusal.
-#[derive(Clone, Copy)]
-pub enum Listed {
-    Given { bytes: usize, records: usize },
-    Refused(Refusal),
+pub struct Listed {
+    pub bytes: usize,
+    pub records: usize,
 }

@@ -4,7 +4,6 @@ ghost use Rattle.forest.specs.Places.{unit_at};
 ghost use Rattle.room.specs.Changes.{Under};
 ghost use Rattle.edit.specs.Taking.{alone_in, PathTaken, OneLess};
 
-use crate::Changed;
 use refusal::Refusal;
 
 // The node at a unit holds one unit and has no child.
@@ -28,7 +27,7 @@ pub fn take_path(
     depth: usize,
     text: &[u8],
     answer: u64,
-) -> Changed
+) -> Result<u64, Refusal>
     requires { (0 < depth) × (depth ≤ 128) × Under n (take depth nodes) × (64 + n ≤ base) × (base + n * 16 ≤ length s.old) × (length text.now ≤ 65535) }
     ensures { PathTaken s.old base n nodes depth text.now answer s.new result }
 {
@@ -37,13 +36,13 @@ pub fn take_path(
     let load = room::wanted_for(text, level::level_start(text, stay));
     let units = load.units;
     if n <= at {
-        return Changed::Refused(Refusal::NotAStore);
+        return Err(Refusal::NotAStore);
     }
     if n - at < units {
-        return Changed::Refused(Refusal::NotAStore);
+        return Err(Refusal::NotAStore);
     }
     room::take_chain(s, base, n, nodes, stay, at, load);
-    Changed::Done(answer)
+    Ok(answer)
 }
 
 // A unit that the node at unit `node` holds, where the node stays.
@@ -56,13 +55,13 @@ pub fn take_unit(
     node: usize,
     at: usize,
     answer: u64,
-) -> Changed
+) -> Result<u64, Refusal>
     requires { (last ≤ 128) × Under n (take last nodes) × (node < n) × (64 + n ≤ base) × (base + n * 16 ≤ length s.old) }
     ensures { OneLess s.old base n (take last nodes) node at answer s.new result }
 {
     if n <= at {
-        return Changed::Refused(Refusal::NotAStore);
+        return Err(Refusal::NotAStore);
     }
     room::take_unit(s, base, n, nodes, last, node, at);
-    Changed::Done(answer)
+    Ok(answer)
 }

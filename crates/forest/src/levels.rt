@@ -2,28 +2,11 @@
 ghost use Rattle.std.specs.Prelude.{◌≡◌};
 ghost use Rattle.forest.specs.Compare.{order_of};
 
-use crate::Order;
-use crate::rows::smaller;
+use std::cmp::Ordering;
 
-pub fn compare(a: &[u8], b: &[u8]) -> Order
+#[tactic(auto, using(crate::proofs::OrderLaws::order_is))]
+pub fn compare(a: &[u8], b: &[u8]) -> Ordering
     ensures { result ≡ order_of a.now b.now }
 {
-    let both = smaller(a.len(), b.len());
-    let mut i = 0;
-    while i < both {
-        if a[i] < b[i] {
-            return Order::Less;
-        }
-        if b[i] < a[i] {
-            return Order::Greater;
-        }
-        i += 1;
-    }
-    if a.len() < b.len() {
-        return Order::Less;
-    }
-    if b.len() < a.len() {
-        return Order::Greater;
-    }
-    Order::Equal
+    a.cmp(b)
 }

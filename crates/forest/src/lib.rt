@@ -18,11 +18,3 @@ pub struct Row {
     pub end: usize,
     pub past: usize,
 }
-
-// How two levels stand in a row.
-#[derive(Clone, Copy)]
-pub enum Order {
-    Less,
-    Equal,
-    Greater,
-}

@@ -4,12 +4,6 @@ ghost use Rattle.forest.specs.Places.{unit_at, level_in, RowAt};
 
 use crate::Row;
 
-pub fn smaller(a: usize, b: usize) -> usize
-    ensures { result ≡ min a b }
-{
-    if b < a { b } else { a }
-}
-
 // The row that begins at unit i, with nothing past unit n. Its numbers are read from a part of known length: then the compiler
 // tests no place a second time.
 pub fn row_at(s: &[u8], base: usize, i: usize, n: usize) -> Row
@@ -21,8 +15,8 @@ pub fn row_at(s: &[u8], base: usize, i: usize, n: usize) -> Row
     let len = lent::get16(head, 0) as usize;
     let own = lent::get16(head, 2) as usize;
     let below = lent::get16(head, 4) as usize;
-    let end = smaller(i + (len + 23) / 16 + own, n);
-    let past = smaller(end + below, n);
+    let end = (i + (len + 23) / 16 + own).min(n);
+    let past = (end + below).min(n);
     Row {
         len,
         own,
@@ -37,7 +31,7 @@ pub fn level_at(s: &[u8], base: usize, i: usize, n: usize) -> &[u8]
     ensures { result.now ≡ level_in base s.now i n }
 {
     let at = base + i * 16;
-    let len = smaller(lent::get16(s, at) as usize, (n - i) * 16 - 8);
+    let len = (lent::get16(s, at) as usize).min((n - i) * 16 - 8);
     let from = at + 8;
     let to = from + len;
     &s[from..to]

@@ -1,4 +1,6 @@
 -- The numbers of a record fit their bytes: bounds that every history keeps. Assumes nothing.
+use Rattle.std.specs.Prelude.{Err, Ok, Result, ⊤}
+use Rattle.refusal.specs.declared.Refusal.{Refusal}
 use mathlib.Core.Path.{◌≡◌, refl, sym}
 use Prim.Native.Nat.{ℕ, zero, suc, ◌≤◌, ◌<◌}
 use mathlib.Core.Bool.{Bool, true, false, not, cond, ◌&&◌, true≢false}
@@ -9,12 +11,11 @@ use lib.Dec.{ltb, leb}
 use lib.ListN.{length, drop, length-map}
 use native.Mathlib.Omega.{arith}
 use Rattle.level.specs.Levels.{split}
-use Rattle.topic.proofs.RuleLaws.{or_else, checked-append}
+use Rattle.topic.specs.Answers.{and_then}
+use Rattle.topic.proofs.RuleLaws.{checked-append}
 use Rattle.topic.specs.Answers.{checked}
 use Rattle.topic.specs.Match.{match47}
 use Rattle.topic.specs.Rules.{Rule, name_rules, filter_rules}
-use Rattle.topic.specs.declared.Checked.{Checked}
-use Rattle.topic.specs.declared.Checked.TheVariants.{Accepted, Refused}
 use Rattle.held.specs.Order.{Filter, same_filter, filter_lt, same_pair, pair_lt}
 use Rattle.held.specs.Ascending.{All, keep}
 use Rattle.held.specs.Room.{Room, up_to, in_range, room_rules, depth_rule}
@@ -65,9 +66,9 @@ module _ (h : List Pair) (sized : All SizedPair h) (few : length h ≤ 8192) whe
 both-accepted : (a b : List Rule) → accepted (checked (a ++ b)) ≡ true → (accepted (checked a) ≡ true) × (accepted (checked b) ≡ true)
 both-accepted a b e = go (checked a) (checked b) (rw (checked-append a b) at e)
   where
-    go : (x y : Checked) → accepted (or_else x y) ≡ true → (accepted x ≡ true) × (accepted y ≡ true)
-    go Accepted y e = (refl, e)
-    go (Refused r) y e = absurd (true≢false (sym e))
+    go : (x y : Result ⊤ Refusal) → accepted (and_then x y) ≡ true → (accepted x ≡ true) × (accepted y ≡ true)
+    go (Ok _) y e = (refl, e)
+    go (Err r) y e = absurd (true≢false (sym e))
 
 -- histories keep the bounds: values are u32, and accepted texts are short
 abbrev pub SmallCall : Call → Type 0

@@ -1,4 +1,5 @@
 -- The examples of document 01 for the stores, computed. Assumes nothing.
+use Rattle.std.specs.Prelude.{Err, Ok}
 use mathlib.Core.Path.{◌≡◌, refl}
 use Prim.Native.Nat.{ℕ}
 use mathlib.Core.Bool.{true, false}
@@ -11,7 +12,6 @@ use Rattle.level.specs.Levels.{split}
 use Rattle.refusal.specs.declared.Refusal.TheVariants.{HasWildcard, BadLevel, TooDeep, NodesFull, PairsFull, TextFull, ShortRoom}
 use Rattle.topic.specs.Answers.{checked}
 use Rattle.topic.specs.Rules.{ascii}
-use Rattle.topic.specs.declared.Checked.TheVariants.{Accepted, Refused}
 use Rattle.held.specs.Order.{Filter, filter_lt}
 use Rattle.held.specs.Ascending.{sort}
 use Rattle.held.specs.Room.{all_leads, nodes_of, node_count, cell_count, Room, in_range, room_rules, depth_rule}
@@ -71,7 +71,7 @@ unfolding outcome result verdict is_held insert_held remove_held depth_rule room
 full_store = refl
 
 -- "128 levels pass, 129 give 12."
-depths : map (λ n. checked (depth_rule (replicate n 47) ∷ [])) (127 ∷ 128 ∷ []) ≡ Accepted ∷ Refused TooDeep ∷ []
+depths : map (λ n. checked (depth_rule (replicate n 47) ∷ [])) (127 ∷ 128 ∷ []) ≡ Ok tt ∷ Err TooDeep ∷ []
 unfolding depth_rule
 depths = refl
 
@@ -106,7 +106,7 @@ paging = (refl, refl, refl)
 -- "16 exactly when the output buffer is shorter than the listing or page", with the bytes needed; the name's fault comes first
 short_room : let h : List Pair = (levels "#", 5) ∷ [] in
     map (λ b. checked (listing_rules (ascii "a") b h)) (11 ∷ 10 ∷ []) ++ checked (listing_rules (ascii "+") 10 h) ∷ checked (lookup_rules (ascii "#") 0 16 timed) ∷ checked (page_rules 1 1 0 0 timed) ∷ map (λ b. checked (page_rules 0 1 0 b timed)) (17 ∷ 16 ∷ [])
-    ≡ Accepted ∷ Refused (ShortRoom 11) ∷ Refused HasWildcard ∷ Refused (ShortRoom 17) ∷ Accepted ∷ Accepted ∷ Refused (ShortRoom 17) ∷ []
+    ≡ Ok tt ∷ Err (ShortRoom 11) ∷ Err HasWildcard ∷ Err (ShortRoom 17) ∷ (Ok tt) ∷ (Ok tt) ∷ Err (ShortRoom 17) ∷ []
 unfolding timed listing_bytes listing values_of listing_record lookup_bytes page_bytes page lookup name_record bytes
 short_room = refl
 

@@ -1,4 +1,5 @@
 -- The listing's order is document 01's: on the filters that match one name, the two agree. Assumes nothing.
+use Rattle.std.specs.Prelude.{Ok}
 use mathlib.Core.Path.{◌≡◌, refl, sym, ap, ◌∙◌}
 use mathlib.Core.Bool.{Bool, true, false, not, ◌&&◌, true≢false}
 use mathlib.Core.List.{List, [], ◌∷◌, map}
@@ -9,7 +10,6 @@ use Rattle.level.specs.Kinds.{is_only, same}
 use Rattle.level.specs.Levels.{split}
 use Rattle.topic.specs.Rules.{filter_rules}
 use Rattle.topic.specs.Answers.{checked}
-use Rattle.topic.specs.declared.Checked.TheVariants.{Accepted}
 use Rattle.topic.specs.Match.{level_takes, takes, lead_wild, lead_dollar, match47}
 use Rattle.held.specs.Order.{Level, Filter, rank, rank_lt, listing_lt, rule_lt}
 use Rattle.held.specs.Ascending.{All, keep, Below, Asc}
@@ -74,7 +74,7 @@ rule_levels [] (g ∷ gs) [] a b u v = sym v
 rule_levels [] (g ∷ gs) (m ∷ ms) a b u v = absurd (true≢false (sym u))
 rule_levels (f ∷ fs) (g ∷ gs) n a b u v = rule_step f g fs gs n a b (λ m p q. rule_levels fs gs m a.1 b.1 p q) u v (same f g) refl
 
-pub rule_is : (f g : List ℕ) (n : Filter) → checked (filter_rules f) ≡ Accepted → checked (filter_rules g) ≡ Accepted → match47 (split f) n ≡ true → match47 (split g) n ≡ true
+pub rule_is : (f g : List ℕ) (n : Filter) → checked (filter_rules f) ≡ Ok tt → checked (filter_rules g) ≡ Ok tt → match47 (split f) n ≡ true → match47 (split g) n ≡ true
     → listing_lt (split f) (split g) ≡ rule_lt (split f) (split g)
 rule_is f g n a b u v =
     rule_levels (split f) (split g) n (filter-hash f (ap accepted a)) (filter-hash g (ap accepted b)) (and_right (not (lead_wild (split f) && lead_dollar n)) (takes (split f) n) u)

@@ -1,4 +1,5 @@
 -- What the tests of a text say of its levels: a filter has '#' only last, a name has no wildcard, and both fit their bytes. Assumes nothing.
+use Rattle.std.specs.Prelude.{Err}
 use mathlib.Core.Path.{◌≡◌, refl, sym, ap, ◌∙◌}
 use Prim.Native.Nat.{ℕ, suc, ◌+◌, ◌≤◌, ◌<◌}
 use mathlib.Core.Bool.{Bool, true, false, cond, ◌||◌, true≢false}
@@ -13,7 +14,6 @@ use Rattle.level.specs.Levels.{split, push}
 use Rattle.level.proofs.Split.{some_level}
 use Rattle.topic.specs.Answers.{checked}
 use Rattle.topic.specs.Rules.{Rule, ◌gives◌, index, name_rules, filter_rules}
-use Rattle.topic.specs.declared.Checked.TheVariants.{Refused}
 use Rattle.held.specs.Order.{Level, Filter}
 use Rattle.held.specs.History.{accepted}
 use Rattle.held.specs.Edit.{Plain, HashLast}
@@ -70,7 +70,7 @@ pub kept : (rules : List Rule) → accepted (checked rules) ≡ true → Kept ru
 kept [] e = tt
 kept ((broken gives r) ∷ rules) e = go broken (kept rules) e
   where
-    go : (t : Bool) → (accepted (checked rules) ≡ true → Kept rules) → accepted (cond t (Refused r) (checked rules)) ≡ true → (t ≡ false) × Kept rules
+    go : (t : Bool) → (accepted (checked rules) ≡ true → Kept rules) → accepted (cond t (Err r) (checked rules)) ≡ true → (t ≡ false) × Kept rules
     go true k e = absurd (true≢false (sym e))
     go false k e = (refl, k e)
 

@@ -1,11 +1,10 @@
 -- TO BELIEVE. What a call does to a store of either kind, and histories of calls (document 01, 'Store rules' and 'Refusal numbers'; demand 3). Assumes nothing.
+use Rattle.std.specs.Prelude.{Err, Ok, Result, ⊤}
 use Rattle.std.specs.Prelude.{ℕ, Bool, true, false, not, cond, ◌&&◌, List, [], ◌∷◌, ◌++◌, leb}
 use Rattle.refusal.specs.Refusals.{told}
 use Rattle.refusal.specs.declared.Refusal.{Refusal}
 use Rattle.topic.specs.Answers.{checked}
 use Rattle.topic.specs.Rules.{Rule}
-use Rattle.topic.specs.declared.Checked.{Checked}
-use Rattle.topic.specs.declared.Checked.TheVariants.{Accepted, Refused}
 use Rattle.held.specs.Room.{Room}
 
 -- a call on what is held: the rules of its text, its depth among them, and those for room; what it answers, and what is held after it
@@ -16,7 +15,7 @@ pub record Effect (H : Type 0) : Type 0 where
   pub after : H
 
 -- "Order: .. 1 to 9, then 12 to 15": 12 is the last rule of a text
-unfoldable pub verdict : {H : Type 0} → Effect H → Checked
+unfoldable pub verdict : {H : Type 0} → Effect H → Result ⊤ Refusal
 verdict e = checked (e.texts ++ e.rooms)
 
 -- what the caller is told: the answer, or the refusal
@@ -24,17 +23,17 @@ pub data Outcome : Type 0 where
   answered : ℕ → Outcome
   refused : Refusal → Outcome
 
-abbrev pub outcome_of : Checked → ℕ → Outcome
-outcome_of Accepted n = answered n
-outcome_of (Refused r) n = refused r
+abbrev pub outcome_of : Result ⊤ Refusal → ℕ → Outcome
+outcome_of (Ok _) n = answered n
+outcome_of (Err r) n = refused r
 
 unfoldable pub outcome : {H : Type 0} → Effect H → Outcome
 outcome e = outcome_of (verdict e) e.answer
 
 -- what is held then; a refused call changes nothing
-abbrev pub accepted : Checked → Bool
-accepted Accepted = true
-accepted (Refused r) = false
+abbrev pub accepted : Result ⊤ Refusal → Bool
+accepted (Ok _) = true
+accepted (Err r) = false
 
 unfoldable pub result : {H : Type 0} → Effect H → H → H
 result e h = cond (accepted (verdict e)) e.after h
@@ -54,9 +53,9 @@ in_turn said [] before = before
 in_turn said (c ∷ cs) before = in_turn said cs (said c before)
 
 -- no call of a history is refused for room, by 13 to 15; 12 depends on the text alone, as 1 to 9 do
-abbrev pub for_room : Checked → Bool
-for_room Accepted = false
-for_room (Refused r) = leb 13 (told r).number && leb (told r).number 15
+abbrev pub for_room : Result ⊤ Refusal → Bool
+for_room (Ok _) = false
+for_room (Err r) = leb 13 (told r).number && leb (told r).number 15
 
 abbrev pub has_room : {C H : Type 0} → Kind C H → Room → List C → H → Bool
 has_room k r [] h = true

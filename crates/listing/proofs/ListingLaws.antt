@@ -1,4 +1,6 @@
 -- The listing's walk: what each turn writes. Assumes nothing.
+use Rattle.std.specs.Prelude.{Some}
+use Rattle.std.specs.Prelude.{None, Option}
 use mathlib.Core.Path.{◌≡◌, refl, sym, ap, ◌∙◌}
 use mathlib.Core.List.{List, [], ◌∷◌, ◌++◌}
 use Prim.Native.Nat.{ℕ, zero, suc, ◌+◌, ◌-◌, ◌*◌, ◌≤◌, ◌<◌}
@@ -16,9 +18,8 @@ use Rattle.walk.specs.declared.Node.{Node}
 use Rattle.walk.specs.declared.Step.{Step}
 use Rattle.walk.specs.declared.Start.{Start}
 use Rattle.walk.specs.declared.Measured.{Measured}
-use Rattle.walk.specs.declared.Node.TheVariants.{At, Nothing}
 use Rattle.walk.specs.Height.{height_f}
-use Rattle.walk.specs.Nodes.{Listed, values_in}
+use Rattle.walk.specs.Nodes.{node_at, Listed, values_in}
 use Rattle.walk.specs.Steps.{NextLevel, StepTo}
 use Rattle.walk.specs.Starts.{Started}
 use Rattle.walk.specs.Sizes.{nothing}
@@ -85,19 +86,19 @@ module _ (name marks : List ℕ) (depth from size stop : ℕ) (t : Trail name ma
     level_down l = path_down name kept depth from size stop 0 (trail_kept l) next more ∙ ap (λ (ms : List ℕ). path_of ms (split name) ++ take (stop - from) (drop from name) ∷ []) same_marks
 
 -- the turns
-module _ (base : ℕ) (s name marks : List ℕ) (depth from : ℕ) (old : List ℕ) (a : Measured) {n : Node} where
-  pub not_walked : n ≡ Nothing → a.bytes ≤ length old → a.records ≤ a.bytes → Walked base s n name marks marks depth from old old a a
+module _ (base : ℕ) (s name marks : List ℕ) (depth from : ℕ) (old : List ℕ) (a : Measured) {n : Option Node} where
+  pub not_walked : n ≡ None → a.bytes ≤ length old → a.records ≤ a.bytes → Walked base s n name marks marks depth from old old a a
   not_walked is l f = record { within = l; few = f; same = refl; is = λ h i. rw (missed base s depth n h is i, walk_miss, count_miss) (added_none old a) }
 
-  module _ (v e q : ℕ) (is : n ≡ At v e q) where
-    pub walked_end : length name < from → (new : List ℕ) (b : Measured) → EndWritten base s v e q depth (path_at marks depth name) old new a b → Walked base s n name marks marks depth from old new a b
+  module _ (nd : Node) (is : n ≡ Some nd) where
+    pub walked_end : length name < from → (new : List ℕ) (b : Measured) → EndWritten base s nd.values nd.end nd.past depth (path_at marks depth name) old new a b → Walked base s n name marks marks depth from old new a b
     walked_end end new b w =
         record {
           within = w.within;
           few = w.few;
           same = refl;
           is = λ h i.
-              let o = opened base s depth v e q n h is i in
+              let o = opened base s depth nd n h is i in
               rw (levels-none name from end, o.is, walk_end, count_end) (w.is o.own o.kids o.holds);
         }
 
@@ -109,7 +110,7 @@ module _ (base : ℕ) (s name marks : List ℕ) (depth from : ℕ) (old : List �
           few = f;
           same = refl;
           is = λ h i.
-              let o = opened base s depth v e q n h is i in
+              let o = opened base s depth nd n h is i in
               let z : height_f o.kids ≤ 0 = omega (arith, o.holds.shallow, deep) in
               let g : Level = first (drop from name) in
               let p : Filter = path_at marks depth name in
@@ -118,8 +119,8 @@ module _ (base : ℕ) (s name marks : List ℕ) (depth from : ℕ) (old : List �
         }
 
     pub walked_on : (size : ℕ) → Trail name marks depth from size → depth < 128
-        → (o1 : List ℕ) (b1 : Measured) → length o1 ≡ length old → BelowWritten base s e q depth (path_at marks depth name) old o1 a b1
-        → (t : Step) → StepTo base s depth e q name from t
+        → (o1 : List ℕ) (b1 : Measured) → length o1 ≡ length old → BelowWritten base s nd.end nd.past depth (path_at marks depth name) old o1 a b1
+        → (t : Step) → StepTo base s depth nd.end nd.past name from t
         → (m2 o2 : List ℕ) (b2 : Measured) → length m2 ≡ 128 → length o2 ≡ length o1 → Walked base s t.any name (set marks depth 1) m2 (depth + 1) (t.stop + 1) o1 o2 b1 b2
         → (m3 o3 : List ℕ) (b3 : Measured) → Walked base s t.own name (set m2 depth 0) m3 (depth + 1) (t.stop + 1) o2 o3 b2 b3
         → Walked base s n name marks m3 depth from old o3 a b3
@@ -135,9 +136,9 @@ module _ (base : ℕ) (s name marks : List ℕ) (depth from : ℕ) (old : List �
               sym (take-take depth (depth + 1) m3 (omega arith)) ∙ ap (take depth) w3.same ∙ take-take depth (depth + 1) (set m2 depth 0) (omega arith)
               ∙ take-set-le depth m2 depth 0 (omega arith) ∙ same_marks name marks depth from size t.stop tr st.next more m2 w2.same;
           is = λ h i.
-              let o = opened base s depth v e q n h is i in
-              let y2 = rw d2 at (w2.is (kid plus o.kids) (kid_of base s depth v e q h o plus t.any st.any)) in
-              let y3 = rw d3 at (w3.is (kid g o.kids) (kid_of base s depth v e q h o g t.own st.own)) in
+              let o = opened base s depth nd n h is i in
+              let y2 = rw d2 at (w2.is (kid plus o.kids) (kid_of base s depth nd.values nd.end nd.past h o plus t.any st.any)) in
+              let y3 = rw d3 at (w3.is (kid g o.kids) (kid_of base s depth nd.values nd.end nd.past h o g t.own st.own)) in
               rw (st.next.levels, o.is, walk-on, count-on)
               (added_then old o1 o3 a b1 b3 _ _ _ _ l1 (b.is o.kids o.holds.stands o.holds.shallow) (added_then o1 o2 o3 b1 b2 b3 _ _ _ _ l2 y2 y3));
         }

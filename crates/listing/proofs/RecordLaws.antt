@@ -1,4 +1,6 @@
 -- A record, written piece by piece. Assumes nothing.
+use Rattle.std.specs.Prelude.{Some}
+use Rattle.std.specs.Prelude.{None, Option}
 use mathlib.Core.Path.{◌≡◌, refl, sym, ap, ◌∙◌}
 use mathlib.Core.List.{List, [], ◌∷◌, ◌++◌, append-nil}
 use Prim.Native.Nat.{ℕ, ◌+◌, ◌-◌, ◌*◌, ◌≤◌, ◌<◌, min}
@@ -20,8 +22,7 @@ use Rattle.held.specs.Walks.{hash, kid}
 use Rattle.held.specs.Stream.{one_of, record_at, hash_bytes, hash_count}
 use Rattle.walk.specs.declared.Node.{Node}
 use Rattle.walk.specs.declared.Measured.{Measured}
-use Rattle.walk.specs.declared.Node.TheVariants.{At, Nothing}
-use Rattle.walk.specs.Nodes.{NodeIn, Kid}
+use Rattle.walk.specs.Nodes.{node_at, NodeIn, Kid}
 use Rattle.listing.specs.Trails.{path_at, whole_text}
 use Rattle.listing.specs.Written.{Wrote, Added, unit_values, Values, RecordRoom, RecordWritten, HashRoom, HashWritten, BelowWritten, EndWritten}
 use Rattle.walk.proofs.NodeLaws.{opened, missed}
@@ -176,16 +177,16 @@ module _ (base : ℕ) (s : List ℕ) (v e text : ℕ) (p : Filter) (old : List �
           }
 
 -- a '#'
-pub hash_record : (base : ℕ) (s : List ℕ) (v e q size : ℕ) (name marks : List ℕ) (depth : ℕ) {n : Node} → n ≡ At v e q → NodeIn base s n → HashRoom size name marks depth
-    → RecordRoom base s e (size + 1) name marks depth
-hash_record base s v e q size name marks depth is i r =
-    let j : NodeIn base s (At v e q) = rw is at i in
+pub hash_record : (base : ℕ) (s : List ℕ) (nd : Node) (size : ℕ) (name marks : List ℕ) (depth : ℕ) {n : Option Node} → n ≡ Some nd → NodeIn base s n → HashRoom size name marks depth
+    → RecordRoom base s nd.end (size + 1) name marks depth
+hash_record base s nd size name marks depth is i r =
+    let j : NodeIn base s (Some nd) = rw is at i in
     record { units = omega (arith, j.1, j.2); short = omega (arith, r.short); deep = r.deep; marked = r.marked; some = r.some; text_fits = omega (arith, r.size_is) }
 
-module _ (base : ℕ) (s : List ℕ) (size : ℕ) (name marks : List ℕ) (depth : ℕ) {n : Node} (old : List ℕ) (a : Measured) where
-  pub hash_written : (v e q : ℕ) → n ≡ At v e q → HashRoom size name marks depth → (new : List ℕ) (b : Measured) → RecordWritten base s v e (size + 1) (path_at marks depth name) old new a b
+module _ (base : ℕ) (s : List ℕ) (size : ℕ) (name marks : List ℕ) (depth : ℕ) {n : Option Node} (old : List ℕ) (a : Measured) where
+  pub hash_written : (nd : Node) → n ≡ Some nd → HashRoom size name marks depth → (new : List ℕ) (b : Measured) → RecordWritten base s nd.values nd.end (size + 1) (path_at marks depth name) old new a b
       → HashWritten base s n (path_at marks depth name) old new a b
-  hash_written v e q is r new b w =
+  hash_written nd is r new b w =
       let p : Filter = path_at marks depth name in
       let l : length (whole_text p) ≡ size + 1 = length_whole p ∙ ap (λ (x : ℕ). x + 1) r.size_is in
       let j : join (p ++ hash ∷ []) ≡ take (size + 1) (whole_text p) = join-hash p ∙ sym (sym (ap (take (size + 1)) (append-nil (whole_text p))) ∙ take_at (whole_text p) [] (size + 1) l) in
@@ -193,15 +194,15 @@ module _ (base : ℕ) (s : List ℕ) (size : ℕ) (name marks : List ℕ) (depth
         within = w.within;
         few = w.few;
         is = λ d h i.
-            let o = opened base s d v e q n h is i in
-            let vals : Values base s v e o.own = record { count = o.holds.count; few = o.holds.few; units = o.holds.values; small = o.holds.small } in
+            let o = opened base s d nd n h is i in
+            let vals : Values base s nd.values nd.end o.own = record { count = o.holds.count; few = o.holds.few; units = o.holds.values; small = o.holds.small } in
             rw o.is (w.is o.own vals (p ++ hash ∷ []) j (ap length (join-hash p) ∙ l));
       }
 
-  pub hash_absent : n ≡ Nothing → a.bytes ≤ length old → a.records ≤ a.bytes → HashWritten base s n (path_at marks depth name) old old a a
+  pub hash_absent : n ≡ None → a.bytes ≤ length old → a.records ≤ a.bytes → HashWritten base s n (path_at marks depth name) old old a a
   hash_absent is h f = record { within = h; few = f; is = λ d k i. rw (missed base s d n k is i) (added_none old a) }
 
-pub below_written : (base : ℕ) (s : List ℕ) (lo hi depth : ℕ) (p : Filter) {n : Node} (old new : List ℕ) (a b : Measured) → Kid base s depth lo hi hash n → HashWritten base s n p old new a b
+pub below_written : (base : ℕ) (s : List ℕ) (lo hi depth : ℕ) (p : Filter) {n : Option Node} (old new : List ℕ) (a b : Measured) → Kid base s depth lo hi hash n → HashWritten base s n p old new a b
     → BelowWritten base s lo hi depth p old new a b
 below_written base s lo hi depth p {n} old new a b k w =
     record { within = w.within; few = w.few; is = λ F x y. w.is (depth + 1) (kid hash F) (k.is F x y) }

@@ -1,5 +1,5 @@
 -- FOR THE CODE. What is written into a buffer from a place on. Assumes nothing.
-use Rattle.std.specs.Prelude.{◌≡◌, List, [], ◌∷◌, ◌++◌, ℕ, zero, suc, ◌+◌, ◌*◌, ◌^◌, ◌≤◌, ◌<◌, length, take}
+use Rattle.std.specs.Prelude.{Option, ◌≡◌, List, [], ◌∷◌, ◌++◌, ℕ, zero, suc, ◌+◌, ◌*◌, ◌^◌, ◌≤◌, ◌<◌, length, take}
 use Rattle.lent.specs.Numbers.{be}
 use Rattle.lent.specs.Parts.{part, patch}
 use Rattle.level.specs.Levels.{split, join, width}
@@ -68,7 +68,7 @@ pub record RecordWritten (base : ℕ) (s : List ℕ) (v e text : ℕ) (p : Filte
   pub is : (own : List ℕ) → Values base s v e own → (f : Filter) → join f ≡ take text (whole_text p) → length (join f) ≡ text → Added old new a (record_at f own) (one_of own) b
 
 -- the record of a '#' below a path
-pub record HashWritten (base : ℕ) (s : List ℕ) (n : Node) (p : Filter) (old new : List ℕ) (a b : Measured) : Type 0 where
+pub record HashWritten (base : ℕ) (s : List ℕ) (n : Option Node) (p : Filter) (old new : List ℕ) (a b : Measured) : Type 0 where
   pub within : b.bytes ≤ length old
   pub few : b.records ≤ b.bytes
   pub is : (d : ℕ) (h : Hit ℕ) → NodeIs base s d n h → Added old new a (hash_bytes p h) (hash_count h) b
@@ -86,7 +86,7 @@ pub record EndWritten (base : ℕ) (s : List ℕ) (v e q depth : ℕ) (p : Filte
   pub is : (own : List ℕ) (kids : Forest ℕ) → NodeHolds base s depth v e q own kids → Added old new a (record_at p own ++ hash_bytes p (kid hash kids)) (one_of own + hash_count (kid hash kids)) b
 
 -- a walk from a node at a depth, with the name's levels from a place on; it may change the marks that are deeper
-pub record Walked (base : ℕ) (s : List ℕ) (n : Node) (name marks kept : List ℕ) (depth from : ℕ) (old new : List ℕ) (a b : Measured) : Type 0 where
+pub record Walked (base : ℕ) (s : List ℕ) (n : Option Node) (name marks kept : List ℕ) (depth from : ℕ) (old new : List ℕ) (a b : Measured) : Type 0 where
   pub within : b.bytes ≤ length old
   pub few : b.records ≤ b.bytes
   pub same : take depth kept ≡ take depth marks

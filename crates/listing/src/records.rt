@@ -121,7 +121,7 @@ pub fn write_hash(
     before: Measured,
     s: &[u8],
     base: usize,
-    node: Node,
+    node: Option<Node>,
     size: usize,
     name: &[u8],
     marks: &[u8],
@@ -131,27 +131,19 @@ pub fn write_hash(
     ensures { HashWritten base s.now node (path_at marks.now depth name.now) out.old out.new before result }
 {
     match node {
-        Node::At {
-            values,
-            end,
-            past: _,
-        } => {
-            return write_record(
-                out,
-                before,
-                s,
-                base,
-                values,
-                end,
-                size + 1,
-                name,
-                marks,
-                depth,
-            );
-        }
-        Node::Nothing => {
-            return before;
-        }
+        Some(node) => write_record(
+            out,
+            before,
+            s,
+            base,
+            node.values,
+            node.end,
+            size + 1,
+            name,
+            marks,
+            depth,
+        ),
+        None => before,
     }
 }
 

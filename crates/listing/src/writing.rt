@@ -16,7 +16,7 @@ use walk::{Measured, Node};
 fn write_walk(
     s: &[u8],
     base: usize,
-    node: Node,
+    node: Option<Node>,
     depth: usize,
     name: &[u8],
     from: usize,
@@ -28,7 +28,7 @@ fn write_walk(
     requires { NodeIn base s.now node × Trail name.now marks.old depth from size × (before.bytes ≤ length out.old) × (before.records ≤ before.bytes) }
     ensures { Walked base s.now node name.now marks.old marks.new depth from out.old out.new before result }
 {
-    let Node::At { values, end, past } = node else {
+    let Some(Node { values, end, past }) = node else {
         return before;
     };
     if name.len() < from {

@@ -1,4 +1,5 @@
 -- The time that a record has left, in the words of the code. Assumes nothing.
+use Rattle.std.specs.Prelude.{None, Some}
 use mathlib.Core.Path.{◌≡◌, sym, ap, ◌∙◌}
 use mathlib.Core.Bool.{true, false}
 use mathlib.Core.List.{List}
@@ -15,7 +16,6 @@ use Rattle.lent.proofs.Parts.{part-part}
 use Rattle.lent.proofs.Anywhere.{read_in}
 use Rattle.region.specs.Units.{stored_of}
 use Rattle.forest.specs.Places.{unit_at}
-use Rattle.lookup.specs.declared.Life.TheVariants.{Over, Left}
 use Rattle.lookup.specs.Lives.{life_of}
 
 module _ (clock base at : ℕ) (s : List ℕ) (within : unit_at base at + 16 ≤ length s) where
@@ -27,7 +27,7 @@ module _ (clock base at : ℕ) (s : List ℕ) (within : unit_at base at + 16 ≤
   moment-read = read_in 8 (base + at * 16 + 8) s (omega arith) ∙ ap be (sym (part-part 8 8 (unit_at base at) 16 s (omega arith)))
 
   -- it has no moment
-  pub life_lasting : (get_or s (base + at * 16 + 4) 0 ≡ 1 → ⊥) → Left 0 ≡ life_of clock (stored_of (part (unit_at base at) 16 s))
+  pub life_lasting : (get_or s (base + at * 16 + 4) 0 ≡ 1 → ⊥) → Some 0 ≡ life_of clock (stored_of (part (unit_at base at) 16 s))
   unfolding stored_of life_of
   life_lasting h =
       let e : eqb (get_or (part (unit_at base at) 16 s) 4 0) 1 ≡ false = rw flag (ne_eqb (get_or s (base + at * 16 + 4) 0) 1 h) in
@@ -37,13 +37,13 @@ module _ (clock base at : ℕ) (s : List ℕ) (within : unit_at base at + 16 ≤
     set : eqb (get_or (part (unit_at base at) 16 s) 4 0) 1 ≡ true
     set = rw flag (eq-eqb (get_or s (base + at * 16 + 4) 0) 1 is)
 
-    pub life_over : m ≤ clock → Over ≡ life_of clock (stored_of (part (unit_at base at) 16 s))
+    pub life_over : m ≤ clock → None ≡ life_of clock (stored_of (part (unit_at base at) 16 s))
     unfolding stored_of life_of
     life_over h =
         let e : leb (be (part 8 8 (part (unit_at base at) 16 s))) clock ≡ true = le-leb (be (part 8 8 (part (unit_at base at) 16 s))) clock (omega (arith, r, moment-read)) in
         rw (set, e)
 
-    pub life-left : clock < m → Left (m - clock) ≡ life_of clock (stored_of (part (unit_at base at) 16 s))
+    pub life-left : clock < m → Some (m - clock) ≡ life_of clock (stored_of (part (unit_at base at) 16 s))
     unfolding stored_of life_of
     life-left h =
         let e : leb (be (part 8 8 (part (unit_at base at) 16 s))) clock ≡ false = lt-leb (be (part 8 8 (part (unit_at base at) 16 s))) clock (omega (arith, r, moment-read)) in

@@ -1,4 +1,5 @@
 -- A node's own record: it is one or none, and what it gives. Assumes nothing.
+use Rattle.std.specs.Prelude.{None, Some}
 use mathlib.Core.Path.{◌≡◌, refl, ◌∙◌}
 use mathlib.Core.Bool.{Bool, true, false, cond}
 use mathlib.Core.List.{List, [], ◌∷◌, append-nil}
@@ -20,7 +21,6 @@ use Rattle.held.specs.Stream.{in_page, own_count, own_bytes}
 use Rattle.region.specs.Units.{stored_bytes, stored_of}
 use Rattle.region.proofs.Instances.{stored_back}
 use Rattle.forest.specs.Places.{unit_at}
-use Rattle.lookup.specs.declared.Life.TheVariants.{Over, Left}
 use Rattle.lookup.specs.declared.Query.{Query}
 use Rattle.lookup.specs.Lives.{life_of}
 use Rattle.lookup.specs.Standing.{OwnHolds}
@@ -51,19 +51,19 @@ module _ (base : ℕ) (s : List ℕ) (at end : ℕ) where
       go (x ∷ v) c = absurd (omega (arith, c, h))
 
 -- its time
-pub over_is : (clock : ℕ) (x : Stored) → Over ≡ life_of clock x → unexpired clock x ≡ false
+pub over_is : (clock : ℕ) (x : Stored) → None ≡ life_of clock x → unexpired clock x ≡ false
 unfolding life_of
 over_is clock x e = go (unexpired clock x) e
   where
-    go : (t : Bool) → Over ≡ cond t (Left (left clock x.moment)) Over → t ≡ false
+    go : (t : Bool) → None ≡ cond t (Some (left clock x.moment)) None → t ≡ false
     go true q = let z : ◌≡◌ {A = ℕ} 0 1 = cc in absurd (omega arith)
     go false q = refl
 
-pub left_is : (clock m : ℕ) (x : Stored) → Left m ≡ life_of clock x → (unexpired clock x ≡ true) × (m ≡ left clock x.moment)
+pub left_is : (clock m : ℕ) (x : Stored) → Some m ≡ life_of clock x → (unexpired clock x ≡ true) × (m ≡ left clock x.moment)
 unfolding life_of
 left_is clock m x e = go (unexpired clock x) e
   where
-    go : (t : Bool) → Left m ≡ cond t (Left (left clock x.moment)) Over → (t ≡ true) × (m ≡ left clock x.moment)
+    go : (t : Bool) → Some m ≡ cond t (Some (left clock x.moment)) None → (t ≡ true) × (m ≡ left clock x.moment)
     go true q = let z : m ≡ left clock x.moment = cc in (refl, z)
     go false q = let z : ◌≡◌ {A = ℕ} 0 1 = cc in absurd (omega arith)
 

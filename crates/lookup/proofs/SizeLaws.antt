@@ -1,4 +1,5 @@
 -- What a lookup's records take: what each turn of the code adds. Assumes nothing.
+use Rattle.std.specs.Prelude.{None, Option, Some}
 use mathlib.Core.Path.{◌≡◌, refl, sym, ap, ◌∙◌}
 use mathlib.Core.Bool.{Bool, true, false, ◌&&◌}
 use mathlib.Core.List.{List, [], ◌∷◌, ◌++◌}
@@ -22,8 +23,6 @@ use Rattle.region.specs.Units.{stored_of}
 use Rattle.forest.specs.declared.Row.{Row}
 use Rattle.forest.specs.Places.{unit_at, level_in, RowAt}
 use Rattle.walk.proofs.Widths.{width_next, length-join_next}
-use Rattle.lookup.specs.declared.Life.{Life}
-use Rattle.lookup.specs.declared.Life.TheVariants.{Over, Left}
 use Rattle.lookup.specs.declared.Query.{Query}
 use Rattle.lookup.specs.declared.Tally.{Tally}
 use Rattle.lookup.specs.declared.Along.{Along}
@@ -44,8 +43,8 @@ told_both x y z a b m n p q =
     record { bytes_are = rw length-append (omega (arith, p.bytes_are, q.bytes_are)); total_is = omega (arith, p.total_is, q.total_is) }
 
 -- a record
-module _ (q : Query) (before : Tally) (base : ℕ) (s : List ℕ) (at text : ℕ) {life : Life} (lives : life ≡ life_of q.clock (stored_of (part (unit_at base at) 16 s))) where
-  pub live_over : life ≡ Over → LiveTold q before base s at text before
+module _ (q : Query) (before : Tally) (base : ℕ) (s : List ℕ) (at text : ℕ) {life : Option ℕ} (lives : life ≡ life_of q.clock (stored_of (part (unit_at base at) 16 s))) where
+  pub live_over : life ≡ None → LiveTold q before base s at text before
   live_over is =
       record {
         total_most = omega arith;
@@ -56,7 +55,7 @@ module _ (q : Query) (before : Tally) (base : ℕ) (s : List ℕ) (at text : ℕ
             told_none before o.0 o.1;
       }
 
-  module _ (m : ℕ) (is : life ≡ Left m) {r : Bool} (paged : r ≡ in_page q.offset q.limit before.total) where
+  module _ (m : ℕ) (is : life ≡ Some m) {r : Bool} (paged : r ≡ in_page q.offset q.limit before.total) where
     pub live_in : r ≡ true → LiveTold q before base s at text (record { bytes = before.bytes + 16 + text; total = before.total + 1 })
     live_in g =
         record {

@@ -1,4 +1,5 @@
 -- The siblings of a row that a filter's level may take, in the words of the code. Assumes nothing.
+use Rattle.std.specs.Prelude.{Result, Ok, Err}
 use mathlib.Core.Path.{◌≡◌, refl, sym, ap, ◌∙◌}
 use mathlib.Core.Bool.{Bool, true, false, ◌&&◌, ◌||◌}
 use mathlib.Core.List.{List, [], ◌∷◌}
@@ -23,8 +24,7 @@ use Rattle.region.proofs.Instances.{records}
 use Rattle.forest.specs.Places.{unit_at}
 use Rattle.forest.specs.Stands.{raw_in, RawStands}
 use Rattle.seek.specs.declared.Child.{Child}
-use Rattle.seek.specs.declared.Child.TheVariants.{At as ChildAt, Nothing as NoChild}
-use Rattle.seek.specs.Child.{child_of, Inside}
+use Rattle.seek.specs.Child.{child_at, child_of, Inside}
 use Rattle.seek.proofs.Found.{found_in, missed_in}
 use Rattle.seek.proofs.Raw.{child_stands}
 use Rattle.walk.specs.Height.{height_f}
@@ -103,7 +103,7 @@ module _ (base : ℕ) (s : List ℕ) (left lo hi : ℕ) (filter : List ℕ) (fro
           let e = sym of.wild_is ∙ w in
           rw of.level.levels (taken-all (take (step.stop - from) (drop from filter)) (levels_at filter (step.stop + 1)) (rw of.level.levels at e) F)
 
-  module _ (plain : step.wild ≡ false) {c : Child} (ask : RawStands base s (129 - left) lo hi → c ≡ child_of (take (step.stop - from) (drop from filter)) lo (raw_in base s lo hi)) where
+  module _ (plain : step.wild ≡ false) {c : Result Child ℕ} (ask : RawStands base s (129 - left) lo hi → c ≡ child_of (take (step.stop - from) (drop from filter)) lo (raw_in base s lo hi)) where
     abbrev g : Level
     g = take (step.stop - from) (drop from filter)
 
@@ -120,7 +120,7 @@ module _ (base : ℕ) (s : List ℕ) (left lo hi : ℕ) (filter : List ℕ) (fro
     wrote F st now o l i p b = rw of.level.levels (bytes_only now b g gs plain_level.0 plain_level.1 o l i p F st.stands.rows)
 
     -- no node
-    pub span_none : (i : ℕ) → c ≡ NoChild i → Spanned base s left lo hi (levels_at filter from) (record { lo = lo; hi = lo })
+    pub span_none : (i : ℕ) → c ≡ Err i → Spanned base s left lo hi (levels_at filter from) (record { lo = lo; hi = lo })
     span_none i e =
         record {
           begun = omega arith;
@@ -149,9 +149,9 @@ module _ (base : ℕ) (s : List ℕ) (left lo hi : ℕ) (filter : List ℕ) (fro
     one_low : (F : Forest Stored) → height_f F ≤ left → (v : List Stored) (k : Forest Stored) → kid g F ≡ hit v k → height_f (fork g v k leaf) ≤ left
     one_low F h v k e = omega (arith, h, height_fork g v k leaf, no_more, kid_height g F v k e)
 
-    pub span_one : (i e q : ℕ) → c ≡ ChildAt i e q → Inside lo hi c → Spanned base s left lo hi (levels_at filter from) (record { lo = i; hi = q })
-    span_one i e q is inside =
-        let j : Inside lo hi (ChildAt i e q) = rw is at inside in
+    pub span_one : (ch : Child) → c ≡ Ok ch → Inside lo hi c → Spanned base s left lo hi (levels_at filter from) (record { lo = ch.node; hi = ch.past })
+    span_one ch is inside =
+        let j : Inside lo hi (Ok ch) = rw is at inside in
         record {
           begun = j.0;
           on = omega (arith, j.1, j.2);
@@ -159,9 +159,9 @@ module _ (base : ℕ) (s : List ℕ) (left lo hi : ℕ) (filter : List ℕ) (fro
           is = λ F st. one F st;
         }
       where
-        one : (F : Forest Stored) → Standing base s left lo hi F → SpanOf base s left (levels_at filter from) F i q
+        one : (F : Forest Stored) → Standing base s left lo hi F → SpanOf base s left (levels_at filter from) F ch.node ch.past
         one F st =
-            let f = found_in records base s g (129 - left) lo hi F st.stands i e q (sym is ∙ child_stands records base s (129 - left) lo hi F st.stands g c ask) in
+            let f = found_in records base s g (129 - left) lo hi F st.stands ch.node ch.end ch.past (sym is ∙ child_stands records base s (129 - left) lo hi F st.stands g c ask) in
             let z : only g (kid g F) ≡ fork g f.own f.kids leaf = rw f.found in
             let o = owns-kid g F f.own f.kids st.single f.found in
             record {

@@ -39,13 +39,6 @@ pub struct Tally {
     pub total: usize,
 }
 
-// A record: it has expired, or has so many ms left; 0 where it has no moment.
-#[derive(Clone, Copy)]
-pub enum Life {
-    Over,
-    Left(u64),
-}
-
 // The level of a filter that begins at a place: where it ends, where the levels begin that are left below it, and whether it is a
 // wildcard.
 #[derive(Clone, Copy)]

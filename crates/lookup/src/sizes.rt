@@ -8,23 +8,14 @@ ghost use Rattle.walk.specs.Nodes.{Below};
 ghost use Rattle.lookup.specs.Standing.{NodeIn};
 ghost use Rattle.lookup.specs.Sizes.{LiveTold, OwnTold, NodeTold, RowTold, Measured};
 
-use crate::{Found, Life, Query, Tally, lives, spans, steps};
+use crate::{Found, Query, Tally, lives, spans, steps};
 use forest::Row;
-
-fn smaller(a: usize, b: usize) -> usize
-    ensures { result ≡ min a b }
-{
-    if b < a { b } else { a }
-}
 
 // A record's number lies in the page.
 pub fn in_page(number: u64, offset: u64, limit: u64) -> bool
     ensures { result ≡ in_page offset limit number }
 {
-    if number < offset {
-        return false;
-    }
-    number - offset < limit
+    offset <= number && number - offset < limit
 }
 
 // With the record in unit `at`, unless it has expired, under a name of `text` bytes. What is not in the page is only counted.
@@ -32,8 +23,7 @@ fn live(before: Tally, s: &[u8], base: usize, at: usize, text: usize, query: Que
     requires { (unit_at base at + 16 ≤ length s.now) × (text ≤ 8388608) × (before.total < 4294967296) × (before.bytes ≤ 8388624 * 4294967296) }
     ensures { LiveTold query before base s.now at text result }
 {
-    let life = lives::life_at(s, base, at, query.clock);
-    let Life::Left(_) = life else {
+    let Some(_) = lives::life_at(s, base, at, query.clock) else {
         return before;
     };
     let total = before.total + 1;
@@ -99,7 +89,7 @@ fn visit(
     let below = left - 1;
     let text = size + node.len;
     let long = text + 1;
-    let at = smaller(i + (node.len + 23) / 16, end);
+    let at = (i + (node.len + 23) / 16).min(end);
     let sum = own(before, s, base, at, end, filter, next, text, query);
     row(sum, s, base, end, past, below, filter, next, long, query)
 }
@@ -144,16 +134,7 @@ fn row(
 fn given(total: usize, offset: u64, limit: u64) -> usize
     ensures { result ≡ min limit (total - offset) }
 {
-    let all = total as u64;
-    if all <= offset {
-        return 0;
-    }
-    let rest = all - offset;
-    if rest < limit {
-        rest as usize
-    } else {
-        limit as usize
-    }
+    (total as u64).saturating_sub(offset).min(limit) as usize
 }
 
 // The lookup of a filter among the names that a region holds in its units from 0 up to n.

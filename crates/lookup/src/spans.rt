@@ -8,7 +8,6 @@ ghost use Rattle.lookup.specs.Steps.{StepOf};
 ghost use Rattle.lookup.specs.Spans.{Spanned, AlongOf};
 
 use crate::{Along, Span, Step, steps};
-use seek::Child;
 
 // Their units: the whole row for a wildcard; else those of the one sibling with the level, or none.
 fn span_of(
@@ -27,15 +26,12 @@ fn span_of(
     if step.wild {
         return Span { lo, hi };
     }
-    let stop = step.stop;
-    let found = seek::find_child(s, base, lo, hi, 129 - left, &filter[from..stop]);
-    match found {
-        Child::At { node, end: _, past } => {
-            return Span { lo: node, hi: past };
-        }
-        Child::Nothing { place: _ } => {
-            return Span { lo, hi: lo };
-        }
+    match seek::find_child(s, base, lo, hi, 129 - left, &filter[from..step.stop]) {
+        Ok(child) => Span {
+            lo: child.node,
+            hi: child.past,
+        },
+        Err(_) => Span { lo, hi: lo },
     }
 }
 
@@ -43,10 +39,7 @@ fn span_of(
 fn bars(left: usize, wild: bool) -> bool
     ensures { result ≡ (eqb left 128 && wild) }
 {
-    if left == 128 {
-        return wild;
-    }
-    false
+    left == 128 && wild
 }
 
 // How the siblings in the units from `lo` up to `hi` are walked, with the levels of the filter from a place on. Where it has ended
@@ -86,8 +79,5 @@ pub fn is_hidden(s: &[u8], base: usize, i: usize, hi: usize, barred: bool) -> bo
     requires { (i < hi) × (unit_at base hi ≤ length s.now) }
     ensures { result ≡ (barred && dollar (level_in base s.now i hi)) }
 {
-    if barred {
-        return level::is_metadata(forest::level_at(s, base, i, hi));
-    }
-    false
+    barred && level::is_metadata(forest::level_at(s, base, i, hi))
 }

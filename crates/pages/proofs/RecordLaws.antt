@@ -1,4 +1,5 @@
 -- A record of a lookup, written piece by piece, and a node's own. Assumes nothing.
+use Rattle.std.specs.Prelude.{None, Option, Some}
 use mathlib.Core.Path.{◌≡◌, refl, sym, ap, ◌∙◌}
 use mathlib.Core.Bool.{Bool, true, false}
 use mathlib.Core.List.{List, [], ◌∷◌, ◌++◌, append_assoc}
@@ -24,8 +25,6 @@ use Rattle.walk.proofs.Widths.{length-join}
 use Rattle.listing.specs.Trails.{slashed}
 use Rattle.listing.proofs.Trails.{length-slashed}
 use Rattle.listing.proofs.RecordLaws.{wrote_none, wrote_then, overwritten}
-use Rattle.lookup.specs.declared.Life.{Life}
-use Rattle.lookup.specs.declared.Life.TheVariants.{Over, Left}
 use Rattle.lookup.specs.declared.Query.{Query}
 use Rattle.lookup.specs.Lives.{life_of}
 use Rattle.lookup.proofs.OwnLaws.{one-held, none-held, over_is, left_is, length_name, own_empty, own_unasked, own-asked, own-expired, own-counted, own-paged, own_unpaged}
@@ -122,8 +121,8 @@ given_both old mid new a b c xs ys m n l p q =
     record { wrote = wrote_then old mid new a.at xs ys b.at c.at l p.wrote q.wrote; number_is = omega (arith, p.number_is, q.number_is) }
 
 -- a record that has expired, is in the page, or is not
-module _ (q : Query) (base : ℕ) (s : List ℕ) (unit : ℕ) (p : Filter) (old : List ℕ) (a : Spot) (in-room : a.at ≤ length old) {life : Life} (lives : life ≡ life_of q.clock (stored_of (part (unit_at base unit) 16 s))) where
-  pub live_over : life ≡ Over → LiveWritten q base s unit p old old a a
+module _ (q : Query) (base : ℕ) (s : List ℕ) (unit : ℕ) (p : Filter) (old : List ℕ) (a : Spot) (in-room : a.at ≤ length old) {life : Option ℕ} (lives : life ≡ life_of q.clock (stored_of (part (unit_at base unit) 16 s))) where
+  pub live_over : life ≡ None → LiveWritten q base s unit p old old a a
   live_over is =
       record {
         within = in-room;
@@ -134,7 +133,7 @@ module _ (q : Query) (base : ℕ) (s : List ℕ) (unit : ℕ) (p : Filter) (old 
             given-none old a o.0 o.1;
       }
 
-  module _ (m : ℕ) (is : life ≡ Left m) {r : Bool} (paged : r ≡ in_page q.offset q.limit a.number) where
+  module _ (m : ℕ) (is : life ≡ Some m) {r : Bool} (paged : r ≡ in_page q.offset q.limit a.number) where
     pub live_in : r ≡ true → (new : List ℕ) (next : ℕ) → RecordWritten base s unit p m old new a.at next → LiveWritten q base s unit p old new a (record { at = next; number = a.number + 1 })
     live_in g new next w =
         record {

@@ -6,7 +6,6 @@ ghost use Rattle.pages.specs.Paths.{path_at, Trail};
 ghost use Rattle.pages.specs.Written.{query_of, RecordWritten, LiveWritten, OwnWritten};
 
 use crate::{Ask, Spot, texts};
-use lookup::Life;
 
 // The record in a unit, which has `ms` left, under the name of a path of `text` bytes. Its handle overwrites the last '/'.
 fn write_record(
@@ -49,8 +48,7 @@ fn write_live(
     requires { Trail ask.base s.now ask.n path.now left (text + 1) × (unit_at ask.base unit + 16 ≤ length s.now) × (spot.at ≤ length out.old) × (spot.number < 4294967296) }
     ensures { LiveWritten (query_of ask) ask.base s.now unit (path_at ask.base s.now ask.n path.now (128 - left)) out.old out.new spot result }
 {
-    let life = lookup::life_at(s, ask.base, unit, ask.clock);
-    let Life::Left(ms) = life else {
+    let Some(ms) = lookup::life_at(s, ask.base, unit, ask.clock) else {
         return spot;
     };
     let number = spot.number + 1;

@@ -1,5 +1,5 @@
 // The lookup itself, written record by record.
-ghost use Rattle.std.specs.Prelude.{◌≡◌, [], ◌+◌, ◌-◌, ◌≤◌, ◌<◌, min, length};
+ghost use Rattle.std.specs.Prelude.{◌≡◌, [], ◌+◌, ◌-◌, ◌≤◌, ◌<◌, length};
 ghost use Rattle.lent.specs.Parts.{patch};
 ghost use Rattle.level.specs.Levels.{split};
 ghost use Rattle.level.specs.Places.{levels_at};
@@ -14,12 +14,6 @@ ghost use Rattle.pages.specs.Written.{query_of, NodeWritten, RowWritten};
 use crate::records::write_own;
 use crate::{Ask, Spot};
 use forest::Row;
-
-fn smaller(a: usize, b: usize) -> usize
-    ensures { result ≡ min a b }
-{
-    if b < a { b } else { a }
-}
 
 // The node at unit i with all below it, where the filter has the levels from `next` on for what is below. The levels of the
 // path to it take `size` bytes. Where no level is left of 128 the walk stops.
@@ -49,7 +43,7 @@ fn visit(
     let level = forest::level_at(s, ask.base, i, ask.n);
     let text = size + level.len();
     let long = text + 1;
-    let at = smaller(i + (node.len + 23) / 16, end);
+    let at = (i + (node.len + 23) / 16).min(end);
     path[128 - left] = i;
     let own = write_own(spot, out, path, s, ask, at, end, below, filter, next, text);
     row(own, out, path, s, ask, end, past, below, filter, next, long)

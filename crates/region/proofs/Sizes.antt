@@ -1,4 +1,5 @@
 -- Capacities in range, the bytes that they need, and opening. Assumes nothing.
+use Rattle.std.specs.Prelude.{Err, Ok}
 use mathlib.Core.Path.{◌≡◌, refl, sym, ap, ◌∙◌}
 use mathlib.Core.Bool.{Bool, true, false, not, true≢false}
 use mathlib.Core.List.{List, [], ◌∷◌}
@@ -11,12 +12,10 @@ use Rattle.lent.specs.Numbers.{bytes}
 use Rattle.lent.specs.Parts.{patch}
 use Rattle.lent.specs.Total.{write}
 use Rattle.lent.proofs.Anywhere.{write_in}
-use Rattle.topic.specs.declared.Checked.TheVariants.{Accepted, Refused as CheckRefused}
 use Rattle.topic.specs.Answers.{checked}
 use Rattle.held.specs.Room.{Room, up_to, in_range}
 use Rattle.held.proofs.Bounds.{in-range}
 use Rattle.refusal.specs.declared.Refusal.TheVariants.{BadSize}
-use Rattle.region.specs.declared.Size.TheVariants.{Bytes, Refused}
 use Rattle.region.specs.Layout.{unit_room, needed_bytes, Used, header_bytes}
 use Rattle.region.specs.Opening.{needed_of, open_rules, nothing}
 
@@ -48,10 +47,10 @@ needed_units r = omega arith
 
 -- the answers of `needed`
 module _ (r : Room) {t : Bool} (et : t ≡ in_range r) where
-  pub needed-bytes : t ≡ true → {n : ℕ} → n ≡ needed_bytes r → Bytes n ≡ needed_of r
+  pub needed-bytes : t ≡ true → {n : ℕ} → n ≡ needed_bytes r → Ok n ≡ needed_of r
   needed-bytes h e = rw (sym et ∙ h, e)
 
-  pub needed-none : t ≡ false → Refused BadSize ≡ needed_of r
+  pub needed-none : t ≡ false → Err BadSize ≡ needed_of r
   needed-none h = rw (sym et ∙ h)
 
 -- the header of a store that holds nothing, byte by byte
@@ -75,14 +74,14 @@ range_in r {t} e h = sym e ∙ not-false t h
 
 -- the answers of `open`
 module _ (r : Room) (s : List ℕ) {t : Bool} (et : t ≡ in_range r) where
-  pub open_range : not t ≡ true → CheckRefused BadSize ≡ checked (open_rules r s)
+  pub open_range : not t ≡ true → Err BadSize ≡ checked (open_rules r s)
   open_range h = rw (ap not (sym et) ∙ h)
 
   module _ (h : not t ≡ false) {n : ℕ} (en : n ≡ needed_bytes r) where
-    pub open_short : length s < n → CheckRefused BadSize ≡ checked (open_rules r s)
+    pub open_short : length s < n → Err BadSize ≡ checked (open_rules r s)
     open_short l = rw (ap not (sym et) ∙ h, lt-ltb (length s) (needed_bytes r) (rw (← en) l))
 
-    pub open_done : n ≤ length s → Accepted ≡ checked (open_rules r s)
+    pub open_done : n ≤ length s → (Ok tt) ≡ checked (open_rules r s)
     open_done l = rw (ap not (sym et) ∙ h, le-ltb (length s) (needed_bytes r) (rw (← en) l))
 
     pub open_written : n ≤ length s → (kind : ℕ) {b u : List ℕ} → b ≡ header_bytes kind r nothing → u ≡ write 0 b s → u ≡ patch 0 (header_bytes kind r nothing) s

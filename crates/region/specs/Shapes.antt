@@ -1,10 +1,10 @@
 -- FOR THE CODE. What the header of a region says, whatever its bytes are. Assumes nothing.
+use Rattle.std.specs.Prelude.{Some, None, Option}
 use Rattle.std.specs.Prelude.{◌≡◌, ℕ, ◌+◌, ◌*◌, ◌≤◌, ◌<◌, List, length}
 use Rattle.lent.specs.Numbers.{be}
 use Rattle.lent.specs.Parts.{part}
 use Rattle.region.specs.declared.Capacities.{Capacities}
 use Rattle.region.specs.declared.Shape.{Shape}
-use Rattle.region.specs.declared.Shape.TheVariants.{Units, Not}
 use Rattle.region.specs.Layout.{unit_room, needed_bytes}
 use Rattle.region.specs.Opening.{room_of}
 use Rattle.region.specs.Store.{room_at}
@@ -26,6 +26,6 @@ pub record UnitsOf (s : List ℕ) (base used room : ℕ) : Type 0 where
 pub record NoUnits (s : List ℕ) : Type 0 where
   pub none : needed_bytes (room_at s) ≤ length s → be (part 16 2 s) ≤ unit_room (room_at s) → ⊥
 
-abbrev pub ShapeOf : List ℕ → Shape → Type 0
-ShapeOf s (Units base used room) = UnitsOf s base used room
-ShapeOf s Not = NoUnits s
+abbrev pub ShapeOf : List ℕ → Option Shape → Type 0
+ShapeOf s (Some u) = UnitsOf s u.base u.used u.room
+ShapeOf s None = NoUnits s

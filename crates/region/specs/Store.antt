@@ -1,13 +1,13 @@
 -- TO BELIEVE. When a region is a store of each kind (document 01, 'Store rules': "docs/ states when a region is a store").
 -- A region is a store exactly when it is what the forest that it decodes to is written down as, that forest is well formed,
 -- and what it holds is accepted and fits. Assumes nothing.
+use Rattle.std.specs.Prelude.{Ok}
 use Rattle.std.specs.Prelude.{◌≡◌, ℕ, ◌+◌, ◌*◌, ◌≤◌, true, List, length}
 use Rattle.lent.specs.Numbers.{be}
 use Rattle.lent.specs.Parts.{part}
 use Rattle.level.specs.Levels.{split}
 use Rattle.topic.specs.Rules.{Rule, filter_rules, name_rules}
 use Rattle.topic.specs.Answers.{checked}
-use Rattle.topic.specs.declared.Checked.TheVariants.{Accepted}
 use Rattle.held.specs.Order.{Filter}
 use Rattle.held.specs.Ascending.{All}
 use Rattle.held.specs.Room.{Room, in_range, node_count, cell_count}
@@ -43,7 +43,7 @@ pub record WrittenIn {X : Type 0} (kind : ℕ) (write : X → List ℕ) (F : For
 pub record Accepts (rules : List ℕ → List Rule) (f : Filter) : Type 0 where
   pub text : List ℕ
   pub levels : split text ≡ f
-  pub fine : checked (rules text) ≡ Accepted
+  pub fine : checked (rules text) ≡ Ok tt
   pub depth : length f ≤ 128
 
 pub record SubscriptionStore (s : List ℕ) : Type 0 where

@@ -14,8 +14,8 @@ pub fn capacities_of(region: &[u8]) -> Capacities
     }
 }
 
-// Whatever the bytes are, the units that it tells of lie in the region.
-pub fn shape_of(region: &[u8]) -> Shape
+// Whatever the bytes are, the units that it tells of lie in the region; none where the header is no store's.
+pub fn shape_of(region: &[u8]) -> Option<Shape>
     ensures { ShapeOf region.now result }
 {
     let nodes = lent::get16(region, 4) as usize;
@@ -23,15 +23,12 @@ pub fn shape_of(region: &[u8]) -> Shape
     let cells = lent::get16(region, 8) as usize;
     let used = lent::get16(region, 16) as usize;
     let room = nodes + pairs + cells;
-    if region.len() < 64 + 17 * room {
-        return Shape::Not;
+    if region.len() < 64 + 17 * room || room < used {
+        return None;
     }
-    if room < used {
-        return Shape::Not;
-    }
-    Shape::Units {
+    Some(Shape {
         base: 64 + room,
         used,
         room,
-    }
+    })
 }

@@ -15,7 +15,6 @@ pub use counts::{cells_size, nodes_size, values_size};
 pub use fit::{cells_of, room_for};
 pub use header::{capacities_of, shape_of};
 use refusal::Refusal;
-use topic::Checked;
 
 // The two kinds of store.
 #[derive(Clone, Copy)]
@@ -42,43 +41,25 @@ pub struct Capacities {
     pub cells: Cells,
 }
 
-// How many bytes a region needs.
+// The units of a region: where they begin, how many are in use, and how many there is room for.
 #[derive(Clone, Copy)]
-pub enum Size {
-    Bytes(u64),
-    Refused(Refusal),
-}
-
-// The units of a region: where they begin, how many are in use, and how many there is room for; or the header is no store's.
-#[derive(Clone, Copy)]
-pub enum Shape {
-    Units {
-        base: usize,
-        used: usize,
-        room: usize,
-    },
-    Not,
+pub struct Shape {
+    pub base: usize,
+    pub used: usize,
+    pub room: usize,
 }
 
 // 1 to `most`.
 fn is_up_to(most: u64, n: u64) -> bool
     ensures { result ≡ up_to most n }
 {
-    if 0 < n { n <= most } else { false }
+    0 < n && n <= most
 }
 
 fn in_range(c: Capacities) -> bool
     ensures { result ≡ in_range (room_of c) }
 {
-    let nodes = c.nodes;
-    let pairs = c.pairs;
-    let cells = c.cells;
-    if is_up_to(4096, nodes.0) {
-        if is_up_to(8192, pairs.0) {
-            return is_up_to(8192, cells.0);
-        }
-    }
-    false
+    is_up_to(4096, c.nodes.0) && is_up_to(8192, c.pairs.0) && is_up_to(8192, c.cells.0)
 }
 
 // The bytes that a region for these capacities needs. Both kinds need the same.
@@ -86,19 +67,16 @@ fn bytes_for(c: Capacities) -> u64
     requires { in_range (room_of c) ≡ true }
     ensures { (result ≡ needed_bytes (room_of c)) × (result ≤ 348224) }
 {
-    let nodes = c.nodes;
-    let pairs = c.pairs;
-    let cells = c.cells;
-    64 + 17 * nodes.0 + 17 * pairs.0 + 17 * cells.0
+    64 + 17 * c.nodes.0 + 17 * c.pairs.0 + 17 * c.cells.0
 }
 
-pub fn needed(_kind: Kind, c: Capacities) -> Size
+pub fn needed(_kind: Kind, c: Capacities) -> Result<u64, Refusal>
     ensures { result ≡ needed_of (room_of c) }
 {
-    if in_range(c) {
-        return Size::Bytes(bytes_for(c));
+    if !in_range(c) {
+        return Err(Refusal::BadSize);
     }
-    Size::Refused(Refusal::BadSize)
+    Ok(bytes_for(c))
 }
 
 // The byte that tells a kind of store.
@@ -127,20 +105,17 @@ fn low(n: u64) -> u8
 fn empty_header(kind: Kind, c: Capacities) -> [u8; 18]
     ensures { result ≡ header_bytes (kind_byte kind) (room_of c) nothing }
 {
-    let nodes = c.nodes;
-    let pairs = c.pairs;
-    let cells = c.cells;
     [
         0x43,
         0x4A,
         kind_byte(kind),
         1,
-        high(nodes.0),
-        low(nodes.0),
-        high(pairs.0),
-        low(pairs.0),
-        high(cells.0),
-        low(cells.0),
+        high(c.nodes.0),
+        low(c.nodes.0),
+        high(c.pairs.0),
+        low(c.pairs.0),
+        high(c.cells.0),
+        low(c.cells.0),
         0, // in use: nodes
         0,
         0, // in use: pairs
@@ -153,17 +128,13 @@ fn empty_header(kind: Kind, c: Capacities) -> [u8; 18]
 }
 
 // Makes a region an empty store. Only the header is written: what stands behind it is read no further than the header says.
-pub fn open(region: &mut [u8], kind: Kind, c: Capacities) -> Checked
+pub fn open(region: &mut [u8], kind: Kind, c: Capacities) -> Result<(), Refusal>
     ensures value { result ≡ checked (open_rules (room_of c) region.old) }
     ensures region_after { region.new ≡ opened_as result kind (room_of c) region.old }
 {
-    if !in_range(c) {
-        return Checked::Refused(Refusal::BadSize);
+    if !in_range(c) || (region.len() as u64) < bytes_for(c) {
+        return Err(Refusal::BadSize);
     }
-    if (region.len() as u64) < bytes_for(c) {
-        return Checked::Refused(Refusal::BadSize);
-    }
-    let header = empty_header(kind, c);
-    lent::copy_in(region, 0, &header);
-    Checked::Accepted
+    lent::copy_in(region, 0, &empty_header(kind, c));
+    Ok(())
 }

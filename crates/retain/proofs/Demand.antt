@@ -2,6 +2,9 @@
 -- run, and that two runs on opened regions, with the same calls for each name in the same order (a sweep counts for every name)
 -- and none refused for room, give the same lookups and pages, byte for byte. `Runs` of `edit` is a run: each of its steps is what
 -- `set` or `remove_expired` does on a store. Assumes nothing.
+use Rattle.std.specs.Prelude.{Err, Ok, Result, ⊤}
+use Rattle.refusal.specs.declared.Refusal.{Refusal}
+use Rattle.retain.specs.declared.Page.{Page}
 use mathlib.Core.Path.{◌≡◌, refl, sym, ap, ◌∙◌}
 use Prim.Native.Nat.{ℕ, ◌≤◌}
 use mathlib.Core.Bool.{Bool, true}
@@ -11,8 +14,6 @@ use Rattle.lent.specs.Parts.{part, patch}
 use Rattle.level.specs.Levels.{split}
 use Rattle.topic.specs.Rules.{filter_rules}
 use Rattle.topic.specs.Answers.{checked}
-use Rattle.topic.specs.declared.Checked.{Checked}
-use Rattle.topic.specs.declared.Checked.TheVariants.{Accepted, Refused as NotAccepted}
 use Rattle.held.specs.Room.{Room, in_range}
 use Rattle.held.specs.Retained.{AscNames, Call, SameCalls, lookup, lookup_bytes, page, page_bytes, page_rules, more}
 use Rattle.held.specs.Found.{Found, FoundPage}
@@ -28,28 +29,30 @@ use Rattle.region.proofs.Stores.{opened_forest, opened-retained}
 use Rattle.edit.specs.Runs.{Runs, Empty}
 use Rattle.edit.specs.Given.{given_bytes, enough_room}
 use Rattle.edit.specs.declared.Listed.{Listed}
-use Rattle.edit.specs.declared.Listed.TheVariants.{Given}
+use Rattle.edit.specs.Given.{listed}
 use Rattle.edit.proofs.RunLaws.{from_empty}
 use Rattle.edit.proofs.GiveLaws.{written_front, given_front, same_given, same_listed}
-use Rattle.retain.specs.declared.Paged.{Paged}
-use Rattle.retain.specs.declared.Paged.TheVariants.{Given as PageGiven}
+use Rattle.retain.specs.Lookups.{paged}
 use Rattle.retain.specs.Calls.{held_in, retained_store}
 use Rattle.retain.specs.Lookups.{LooksKnown, paged_by, page_bytes_given, page_enough_room, PagesKnown}
 
 -- a page that was given: no rule was broken, and these are its bytes, its records and whether more follows
-page_only : (out : List ℕ) (count : ℕ) (follows : Bool) (c : Checked) {bytes records : ℕ} {m : Bool} → PageGiven bytes records m ≡ paged_by out count follows c
-    → (c ≡ Accepted) × (bytes ≡ length out) × (records ≡ count) × (m ≡ follows)
-page_only out count follows Accepted e = (refl, first e, second e, third e)
+page_only : (out : List ℕ) (count : ℕ) (follows : Bool) (c : Result ⊤ Refusal) {bytes records : ℕ} {m : Bool} → paged bytes records m ≡ paged_by out count follows c
+    → (c ≡ Ok tt) × (bytes ≡ length out) × (records ≡ count) × (m ≡ follows)
+page_only out count follows (Ok _) e = (refl, first e, second e, third e)
   where
-    first : {a b n k : ℕ} {x y : Bool} → PageGiven a n x ≡ PageGiven b k y → a ≡ b
-    first e = cc
+    same : {p q : Page} → ◌≡◌ {A = Result Page Refusal} (Ok p) (Ok q) → p ≡ q
+    same e = cc
 
-    second : {a b n k : ℕ} {x y : Bool} → PageGiven a n x ≡ PageGiven b k y → n ≡ k
-    second e = cc
+    first : {a b n k : ℕ} {x y : Bool} → paged a n x ≡ paged b k y → a ≡ b
+    first e = ap (λ (p : Page). p.bytes) (same e)
 
-    third : {a b n k : ℕ} {x y : Bool} → PageGiven a n x ≡ PageGiven b k y → x ≡ y
-    third e = cc
-page_only out count follows (NotAccepted r) e = (cc, cc, cc, cc)
+    second : {a b n k : ℕ} {x y : Bool} → paged a n x ≡ paged b k y → n ≡ k
+    second e = ap (λ (p : Page). p.records) (same e)
+
+    third : {a b n k : ℕ} {x y : Bool} → paged a n x ≡ paged b k y → x ≡ y
+    third e = ap (λ (p : Page). p.more) (same e)
+page_only out count follows (Err r) e = (cc, cc, cc, cc)
 
 -- "one record per name": what a store holds strictly ascends by its names
 pub held_names : {s : List ℕ} → RetainedStore s → AscNames (held_in s)
@@ -58,14 +61,14 @@ held_names {s} st = well_names (forest_at stored_of s) st.well
 -- which names a lookup and a page have after a run: exactly those that the calls left held, that have not expired, and that the
 -- filter takes
 module _ {cs : List Call} {s t : List ℕ} (a : Empty retained_store s) (x : Runs retained_store cs s t) where
-  pub runs_found : (filter : List ℕ) (clock : ℕ) (before : List ℕ) {after : List ℕ} {bytes records : ℕ} → LooksKnown t filter clock before after (Given bytes records)
+  pub runs_found : (filter : List ℕ) (clock : ℕ) (before : List ℕ) {after : List ℕ} {bytes records : ℕ} → LooksKnown t filter clock before after (listed bytes records)
       → Found cs filter clock (part 0 bytes after) records
   runs_found filter clock before {after} l =
       let f = from_empty retained_store a x in
       let z = given_front (filter_rules filter) (lookup_bytes (split filter) clock (held_in t)) (length (lookup (split filter) clock (held_in t))) before after l f.2 in
       rw (z.0, z.1, f.1) (history_found (room_at s) cs f.0 filter clock)
 
-  pub runs-paged : (clock offset limit : ℕ) (before : List ℕ) {after : List ℕ} {bytes records : ℕ} {follows : Bool} → PagesKnown t clock offset limit before after (PageGiven bytes records follows)
+  pub runs-paged : (clock offset limit : ℕ) (before : List ℕ) {after : List ℕ} {bytes records : ℕ} {follows : Bool} → PagesKnown t clock offset limit before after (paged bytes records follows)
       → FoundPage cs clock offset limit (part 0 bytes after) records follows
   runs-paged clock offset limit before {after} {bytes} {records} {follows} l =
       let f = from_empty retained_store a x in
@@ -83,13 +86,13 @@ module _ {cs ds : List Call} {s t u v : List ℕ} (a : Empty retained_store s) (
       f.1 ∙ same_names (room_at s) (room_at u) cs ds f.0 g.0 same ∙ sym g.1
 
   -- and a lookup and a page give the same, into buffers of any lengths that both have enough room, or both have not
-  pub runs-look : (filter : List ℕ) (clock : ℕ) {before before' after after' : List ℕ} {r q : Listed} → LooksKnown t filter clock before after r → LooksKnown v filter clock before' after' q
+  pub runs-look : (filter : List ℕ) (clock : ℕ) {before before' after after' : List ℕ} {r q : Result Listed Refusal} → LooksKnown t filter clock before after r → LooksKnown v filter clock before' after' q
       → enough_room r ≡ enough_room q → (r ≡ q) × (given_bytes r after ≡ given_bytes q after')
   runs-look filter clock k l e =
       same_listed (filter_rules filter) (lookup_bytes (split filter) clock (held_in v)) (length (lookup (split filter) clock (held_in v))) (from_empty retained_store a x).2 (from_empty retained_store b y).2
       (rw runs_hold at k) l e
 
-  pub runs-page : (clock offset limit : ℕ) {before before' after after' : List ℕ} {r q : Paged} → PagesKnown t clock offset limit before after r → PagesKnown v clock offset limit before' after' q
+  pub runs-page : (clock offset limit : ℕ) {before before' after after' : List ℕ} {r q : Result Page Refusal} → PagesKnown t clock offset limit before after r → PagesKnown v clock offset limit before' after' q
       → page_enough_room r ≡ page_enough_room q → (r ≡ q) × (page_bytes_given r after ≡ page_bytes_given q after')
   runs-page clock offset limit k l e =
       same_given [] (paged_by (page_bytes offset limit clock (held_in v)) (length (page offset limit clock (held_in v))) (more offset limit clock (held_in v))) (page_bytes offset limit clock (held_in v))

@@ -1,4 +1,6 @@
 -- Erasing a record: what each answer rests on. Assumes nothing.
+use Rattle.std.specs.Prelude.{Err, Ok, Result}
+use Rattle.refusal.specs.declared.Refusal.{Refusal}
 use mathlib.Core.Path.{◌≡◌, refl, sym, ap, ◌∙◌}
 use mathlib.Core.Bool.{Bool, true, false, not, true≢false}
 use mathlib.Core.List.{List, []}
@@ -10,7 +12,6 @@ use Rattle.refusal.specs.declared.Refusal.TheVariants.{NotAStore}
 use Rattle.level.specs.Levels.{split}
 use Rattle.topic.specs.Rules.{name_rules}
 use Rattle.topic.specs.Answers.{checked}
-use Rattle.topic.specs.declared.Checked.TheVariants.{Accepted}
 use Rattle.held.specs.Order.{same_filter}
 use Rattle.held.specs.Retained.{Stored, Named, has_filter, erase_held, set}
 use Rattle.held.specs.Forest.{Forest, leaf, held, Full}
@@ -29,8 +30,6 @@ use Rattle.seek.specs.PathFound.{PathFound}
 use Rattle.change.specs.Ways.{ahead}
 use Rattle.change.proofs.EditLaws.{Becomes}
 use Rattle.change.proofs.StoreLaws.{retained_holds}
-use Rattle.edit.specs.declared.Changed.{Changed}
-use Rattle.edit.specs.declared.Changed.TheVariants.{Done, Refused}
 use Rattle.edit.specs.Calls.{Step}
 use Rattle.edit.specs.Taking.{alone_in, PathTaken, OneLess}
 use Rattle.edit.proofs.KnownPath.{node_is}
@@ -60,19 +59,19 @@ module _ (s : List ℕ) (st : RetainedStore s) (f : List ℕ) where
       cut-within records 2 s (forest_at stored_of s) (retained_holds s st) emptied (split f) erased_full
       (omega (arith, ap length i.0, length-keep (λ (q : Named). not (same_filter (split f) q.0)) (held_in s)))
 
-module _ (s : List ℕ) {base n room : ℕ} (units : UnitsOf s base n room) (f : List ℕ) (fine : checked (name_rules f) ≡ Accepted) (few : length (split f) ≤ 128) {p : Path} (pf : PathFound base s n f p)
+module _ (s : List ℕ) {base n room : ℕ} (units : UnitsOf s base n room) (f : List ℕ) (fine : checked (name_rules f) ≡ Ok tt) (few : length (split f) ≤ 128) {p : Path} (pf : PathFound base s n f p)
     (q : length f < p.from) (full : length p.nodes ≡ 128) {node : ℕ} (at : node ≡ get_or p.nodes (p.depth - 1) 0) {slot : Slot} (e : slot ≡ slot_in base s n node) where
   has_own : (st : RetainedStore s) {v : List Stored} → (here s units f few pf q full st).own ≡ v → has_filter (split f) (held_in s) ≡ not (null v)
   has_own st z = has_is s st f ∙ ap (λ (v : List Stored). not (null v)) (own_held s units f few pf q full st ∙ z)
 
-  pub gone_broken : not slot.sound ≡ true → Erases f s s (Refused NotAStore)
+  pub gone_broken : not slot.sound ≡ true → Erases f s s (Err NotAStore)
   gone_broken h =
       record {
         does = λ (x : Stored).
             record { does = λ (st : RetainedStore s). absurd (true≢false (sym h ∙ ap (λ (a : Slot). not a.sound) (e ∙ slot-stored s units f few pf q full st at))) };
       }
 
-  pub gone_absent : not slot.held ≡ true → Erases f s s (Done 4)
+  pub gone_absent : not slot.held ≡ true → Erases f s s (Ok 4)
   gone_absent h =
       record {
         does = λ (x : Stored).
@@ -87,30 +86,30 @@ module _ (s : List ℕ) {base n room : ℕ} (units : UnitsOf s base n room) (f :
       it : One (here s units f few pf q full st).own
       it = some-held (slot_held s units f few pf q full st at e) (not-false slot.held h)
 
-      done : (t : List ℕ) → Becomes records 2 s t (cut_f emptied (split f) F) → Step retained_store (set f 0 x) s t (Done 3)
+      done : (t : List ℕ) → Becomes records 2 s t (cut_f emptied (split f) F) → Step retained_store (set f 0 x) s t (Ok 3)
       unfolding erase_f
       done t c = erase_done s st f x fine (has_own st it.is) t c
 
       -- of a node without children
-      path_step : b ≡ true → {t : List ℕ} {r : Changed} → PathTaken s base n p.nodes p.depth f 3 t r → Step retained_store (set f 0 x) s t r
+      path_step : b ≡ true → {t : List ℕ} {r : Result ℕ Refusal} → PathTaken s base n p.nodes p.depth f 3 t r → Step retained_store (set f 0 x) s t r
       path_step z a =
           let c = alone_own records 2 s units F (retained_holds s st) f few pf full q at (sym eb ∙ z) in
           path-gone records 2 s units F (retained_holds s st) f few pf full q emptied (erased_full s st f) (erased-within s st f) it.it it.is c.1 refl
-          (λ (t : List ℕ) (r : Changed). Step retained_store (set f 0 x) s t r) done a
+          (λ (t : List ℕ) (r : Result ℕ Refusal). Step retained_store (set f 0 x) s t r) done a
 
       -- of a node with children
       others : b ≡ false → ◌≡◌ {A = List Stored} [] [] → (here s units f few pf q full st).kids ≡ leaf → ⊥
       others z u v = not_alone records 2 s units F (retained_holds s st) f few pf full q at (sym eb ∙ z) (ap length it.is) v
 
-      unit_step : b ≡ false → {t : List ℕ} {r : Changed} → OneLess s base n (take (p.depth - 1) p.nodes) node slot.at 3 t r → Step retained_store (set f 0 x) s t r
+      unit_step : b ≡ false → {t : List ℕ} {r : Result ℕ Refusal} → OneLess s base n (take (p.depth - 1) p.nodes) node slot.at 3 t r → Step retained_store (set f 0 x) s t r
       unit_step z a =
           let w : slot.at ≡ ahead (here s units f few pf q full st).way + level_units (here s units f few pf q full st).level + 0 =
           omega (arith, ap (λ (c : Slot). c.at) (e ∙ slot-stored s units f few pf q full st at)) in
           unit-gone records 2 s units F (retained_holds s st) f few pf full q emptied (erased_full s st f) (erased-within s st f) it.it [] [] it.is refl (others z)
-          (λ (t : List ℕ) (r : Changed). Step retained_store (set f 0 x) s t r) done (at ∙ node_is records 2 s units F (retained_holds s st) f few pf q full) w a
+          (λ (t : List ℕ) (r : Result ℕ Refusal). Step retained_store (set f 0 x) s t r) done (at ∙ node_is records 2 s units F (retained_holds s st) f few pf q full) w a
 
-    pub gone_path : b ≡ true → {t : List ℕ} {r : Changed} → PathTaken s base n p.nodes p.depth f 3 t r → Erases f s t r
+    pub gone_path : b ≡ true → {t : List ℕ} {r : Result ℕ Refusal} → PathTaken s base n p.nodes p.depth f 3 t r → Erases f s t r
     gone_path z a = record { does = λ (x : Stored). record { does = λ (st : RetainedStore s). path_step x st z a } }
 
-    pub gone_unit : b ≡ false → {t : List ℕ} {r : Changed} → OneLess s base n (take (p.depth - 1) p.nodes) node slot.at 3 t r → Erases f s t r
+    pub gone_unit : b ≡ false → {t : List ℕ} {r : Result ℕ Refusal} → OneLess s base n (take (p.depth - 1) p.nodes) node slot.at 3 t r → Erases f s t r
     gone_unit z a = record { does = λ (x : Stored). record { does = λ (st : RetainedStore s). unit_step x st z a } }

@@ -1,4 +1,6 @@
 -- Setting a record: what each answer rests on. Assumes nothing.
+use Rattle.std.specs.Prelude.{Err, Ok, Result}
+use Rattle.refusal.specs.declared.Refusal.{Refusal}
 use mathlib.Core.Path.{◌≡◌, refl, sym, ap, ◌∙◌}
 use mathlib.Core.Bool.{true, false, not, true≢false}
 use mathlib.Core.List.{List, [], ◌∷◌}
@@ -13,7 +15,6 @@ use Rattle.level.specs.Levels.{split}
 use Rattle.level.specs.Places.{levels_at}
 use Rattle.topic.specs.Rules.{name_rules}
 use Rattle.topic.specs.Answers.{checked}
-use Rattle.topic.specs.declared.Checked.TheVariants.{Accepted}
 use Rattle.held.specs.Order.{Filter}
 use Rattle.held.specs.Room.{level_cells}
 use Rattle.held.specs.Retained.{Stored, has_filter, set}
@@ -38,8 +39,6 @@ use Rattle.room.specs.Changes.{made_unit, made_chain}
 use Rattle.change.specs.Ways.{ahead}
 use Rattle.change.proofs.EditLaws.{Becomes}
 use Rattle.change.proofs.StoreLaws.{stored_small, retained_holds}
-use Rattle.edit.specs.declared.Changed.{Changed}
-use Rattle.edit.specs.declared.Changed.TheVariants.{Done, Refused}
 use Rattle.edit.specs.Calls.{Step, Does}
 use Rattle.edit.specs.Adding.{fitting, Added, no_fit, no-room, added, ChainAdded}
 use Rattle.edit.proofs.LastLaws.{last_inside}
@@ -57,21 +56,21 @@ use Rattle.retain.proofs.StoredPath.{has_is, not-held, rooms_are, set-within, se
 abbrev only : Stored → List Stored → List Stored
 only x v = x ∷ []
 
-module _ (s : List ℕ) {base n room : ℕ} (units : UnitsOf s base n room) (f : List ℕ) (fine : checked (name_rules f) ≡ Accepted) (few : length (split f) ≤ 128) {p : Path} (pf : PathFound base s n f p)
+module _ (s : List ℕ) {base n room : ℕ} (units : UnitsOf s base n room) (f : List ℕ) (fine : checked (name_rules f) ≡ Ok tt) (few : length (split f) ≤ 128) {p : Path} (pf : PathFound base s n f p)
     (full : length p.nodes ≡ 128) (x : Stored) where
   -- a new name, once the room was tested: the region then holds the forest with it
   module _ (st : RetainedStore s) (absent : values_at (split f) (hit [] (forest_at stored_of s)) ≡ []) (nodes cells more : ℕ)
       (fits : fitting s (length (missing (split f) (forest_at stored_of s))) (weigh level_cells (missing (split f) (forest_at stored_of s))) ≡ fitting s nodes cells)
       (size : units_f (set_f (split f) x (forest_at stored_of s)) ≡ n + more) (made : List ℕ)
-      (becomes : fitting s nodes cells ≡ Accepted → Becomes records 2 s made (set_f (split f) x (forest_at stored_of s))) where
-    new_name : {t : List ℕ} {r : Changed} → Added s n room nodes cells more made t r → Step retained_store (set f 1 x) s t r
+      (becomes : fitting s nodes cells ≡ Ok tt → Becomes records 2 s made (set_f (split f) x (forest_at stored_of s))) where
+    new_name : {t : List ℕ} {r : Result ℕ Refusal} → Added s n room nodes cells more made t r → Step retained_store (set f 1 x) s t r
     new_name (no_fit {r = r} z) = set_refused s st f x fine r (rooms_are s st f units few x absent ∙ fits ∙ z)
     new_name (no-room z g) = absurd (omega (arith, size, g, set_units s st f units few x absent (fits ∙ z)))
     new_name (added z g) = set_new s st f x fine few (not-held s st f units few x absent) (rooms_are s st f units few x absent ∙ fits ∙ z) made (becomes z)
 
   -- the nodes are there
   module _ (q : length f < p.from) {node : ℕ} (at : node ≡ get_or p.nodes (p.depth - 1) 0) {slot : Slot} (e : slot ≡ slot_in base s n node) where
-    pub record_broken : not slot.sound ≡ true → Does retained_store (set f 1 x) s s (Refused NotAStore)
+    pub record_broken : not slot.sound ≡ true → Does retained_store (set f 1 x) s s (Err NotAStore)
     record_broken h =
         record { does = λ (st : RetainedStore s). absurd (true≢false (sym h ∙ ap (λ (a : Slot). not a.sound) (e ∙ slot-stored s units f few pf q full st at))) }
 
@@ -89,7 +88,7 @@ module _ (s : List ℕ) {base n room : ℕ} (units : UnitsOf s base n room) (f :
       own_now = own_held s units f few pf q full st
 
       -- its record is replaced
-      over : One (here s units f few pf q full st).own → SmallStored x → Step retained_store (set f 1 x) s (patch (unit_at base slot.at) (stored_bytes x) s) (Done 2)
+      over : One (here s units f few pf q full st).own → SmallStored x → Step retained_store (set f 1 x) s (patch (unit_at base slot.at) (stored_bytes x) s) (Ok 2)
       unfolding set_f
       over o small =
           let h : has_filter (split f) (held_in s) ≡ true = has_is s st f ∙ ap (λ (v : List Stored). not (null v)) (own_now ∙ o.is) in
@@ -109,20 +108,20 @@ module _ (s : List ℕ) {base n room : ℕ} (units : UnitsOf s base n room) (f :
         unfolding set_f
         more = unit-more records 2 s units F (retained_holds s st) f few pf full (only x) q x [] [] none refl
 
-        becomes : fitting s 0 0 ≡ Accepted → Becomes records 2 s (made_unit base n (take (p.depth - 1) p.nodes) node (place + 0) (stored_bytes x) s) (set_f (split f) x F)
+        becomes : fitting s 0 0 ≡ Ok tt → Becomes records 2 s (made_unit base n (take (p.depth - 1) p.nodes) node (place + 0) (stored_bytes x) s) (set_f (split f) x F)
         unfolding set_f
         becomes z =
             unit-held records 2 s units F (retained_holds s st) f few pf full (only x) q x [] [] none refl small (set_text f F st.well x).1.full
             (set-within s st f units few x absent (fits ∙ z)) (at ∙ node_is records 2 s units F (retained_holds s st) f few pf q full)
 
-        new_record : {t : List ℕ} {r : Changed} → Added s n room 0 0 1 (made_unit base n (take (p.depth - 1) p.nodes) node (place + 0) (stored_bytes x) s) t r → Step retained_store (set f 1 x) s t r
+        new_record : {t : List ℕ} {r : Result ℕ Refusal} → Added s n room 0 0 1 (made_unit base n (take (p.depth - 1) p.nodes) node (place + 0) (stored_bytes x) s) t r → Step retained_store (set f 1 x) s t r
         new_record a = new_name st absent 0 0 1 fits more _ becomes a
 
       inside : One (here s units f few pf q full st).own → unit_at base slot.at + 16 ≤ length s
       inside o =
           omega (arith, place_is, last_inside records base s n F (stands records 2 s units F (retained_holds s st)) (split f) (here s units f few pf q full st), ap length o.is, units.within, units.long, units.base_is)
 
-    pub record_over : slot.held ≡ true → {unit : List ℕ} → UnitOf x unit → {t : List ℕ} → t ≡ write (base + slot.at * 16) unit s → Does retained_store (set f 1 x) s t (Done 2)
+    pub record_over : slot.held ≡ true → {unit : List ℕ} → UnitOf x unit → {t : List ℕ} → t ≡ write (base + slot.at * 16) unit s → Does retained_store (set f 1 x) s t (Ok 2)
     record_over h w {t} z =
         record {
           does = λ (st : RetainedStore s).
@@ -132,7 +131,7 @@ module _ (s : List ℕ) {base n room : ℕ} (units : UnitsOf s base n room) (f :
               rw y (over st o (stored_small x w.back));
         }
 
-    pub record_added : slot.held ≡ false → {unit : List ℕ} → UnitOf x unit → {t : List ℕ} {r : Changed}
+    pub record_added : slot.held ≡ false → {unit : List ℕ} → UnitOf x unit → {t : List ℕ} {r : Result ℕ Refusal}
         → Added s n room 0 0 1 (made_unit base n (take (p.depth - 1) p.nodes) node slot.at unit s) t r → Does retained_store (set f 1 x) s t r
     record_added h w d =
         record {
@@ -158,16 +157,16 @@ module _ (s : List ℕ) {base n room : ℕ} (units : UnitsOf s base n room) (f :
       unfolding set_f
       chain_size = chain_more records 2 s units G (retained_holds s st) f few pf full (only x) q x refl load w
 
-      chain_becomes : fitting s load.nodes load.cells ≡ Accepted
+      chain_becomes : fitting s load.nodes load.cells ≡ Ok tt
           → Becomes records 2 s (made_chain base n (take p.depth p.nodes) p.place (p.depth + 1) (stored_bytes x) (levels_at f p.from) load s) (set_f (split f) x G)
       unfolding set_f
       chain_becomes z =
           chain_held records 2 s units G (retained_holds s st) f few pf full (only x) q x refl load w small size (set_text f G st.well x).1.full
           (set-within s st f units few x nothing (chain_fits ∙ z))
 
-      new-chain : {t : List ℕ} {r : Changed}
+      new-chain : {t : List ℕ} {r : Result ℕ Refusal}
           → Added s n room load.nodes load.cells load.units (made_chain base n (take p.depth p.nodes) p.place (p.depth + 1) (stored_bytes x) (levels_at f p.from) load s) t r → Step retained_store (set f 1 x) s t r
       new-chain a = new_name st nothing load.nodes load.cells load.units chain_fits chain_size _ chain_becomes a
 
-    pub chain_does : {unit : List ℕ} → UnitOf x unit → {t : List ℕ} {r : Changed} → ChainAdded s base n room p f unit t r → Does retained_store (set f 1 x) s t r
+    pub chain_does : {unit : List ℕ} → UnitOf x unit → {t : List ℕ} {r : Result ℕ Refusal} → ChainAdded s base n room p f unit t r → Does retained_store (set f 1 x) s t r
     chain_does w a = record { does = λ (st : RetainedStore s). new-chain st (stored_small x w.back) a.load a.wanted (rw w.is at a.adds) }

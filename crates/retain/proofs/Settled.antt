@@ -1,5 +1,9 @@
 -- No second outcome meets a promise of this crate: neither another answer, nor another held set or other capacities, nor another
 -- byte in a buffer. Assumes nothing.
+use Rattle.std.specs.Prelude.{Err, Ok, Result}
+use Rattle.region.specs.declared.Pairs.{Pairs}
+use Rattle.refusal.specs.declared.Refusal.{Refusal}
+use Rattle.retain.specs.declared.Page.{Page}
 use mathlib.Core.Path.{◌≡◌, ap}
 use Prim.Native.Nat.{ℕ}
 use mathlib.Core.List.{List}
@@ -10,37 +14,33 @@ use Rattle.held.specs.Retained.{Call}
 use Rattle.region.specs.declared.Kind.TheVariants.{Retained}
 use Rattle.region.specs.Store.{RetainedStore}
 use Rattle.audit.proofs.Stores.{decided}
-use Rattle.edit.specs.declared.Changed.{Changed}
 use Rattle.edit.specs.declared.Listed.{Listed}
 use Rattle.edit.specs.Calls.{Calls}
 use Rattle.edit.specs.Counts.{Counts}
 use Rattle.edit.specs.Same.{Same}
 use Rattle.edit.proofs.Settled.{same_answer, calls_settled, gives_settled, counts_settled}
-use Rattle.retain.specs.declared.Names.{Names}
-use Rattle.retain.specs.declared.Names.TheVariants.{Held, Refused}
-use Rattle.retain.specs.declared.Paged.{Paged}
 use Rattle.retain.specs.Calls.{held_in, retained_store}
 use Rattle.retain.specs.Counted.{names_told}
 use Rattle.retain.specs.Lookups.{Looks, Pages}
 
 module _ (s : List ℕ) (all : AreBytes s) where
   -- `set` and `remove_expired`
-  pub changes_settled : (call : Call) {t u : List ℕ} {r q : Changed} → Calls retained_store call s t r → Calls retained_store call s u q → (r ≡ q) × Same retained_store t u
+  pub changes_settled : (call : Call) {t u : List ℕ} {r q : Result ℕ Refusal} → Calls retained_store call s t r → Calls retained_store call s u q → (r ≡ q) × Same retained_store t u
   changes_settled call x y = calls_settled retained_store call s (decided Retained s all) x y
 
-  pub get_settled : (filter : List ℕ) (clock : ℕ) (before : List ℕ) {after after' : List ℕ} {r q : Listed} → Looks s filter clock before after r → Looks s filter clock before after' q
+  pub get_settled : (filter : List ℕ) (clock : ℕ) (before : List ℕ) {after after' : List ℕ} {r q : Result Listed Refusal} → Looks s filter clock before after r → Looks s filter clock before after' q
       → (r ≡ q) × (after ≡ after')
   get_settled filter clock before x y = gives_settled (decided Retained s all) x y
 
-  pub page_settled : (clock offset limit : ℕ) (before : List ℕ) {after after' : List ℕ} {r q : Paged} → Pages s clock offset limit before after r → Pages s clock offset limit before after' q
+  pub page_settled : (clock offset limit : ℕ) (before : List ℕ) {after after' : List ℕ} {r q : Result Page Refusal} → Pages s clock offset limit before after r → Pages s clock offset limit before after' q
       → (r ≡ q) × (after ≡ after')
   page_settled clock offset limit before x y = gives_settled (decided Retained s all) x y
 
-  pub count_settled : Settles (λ (r : Names). Counts (RetainedStore s) (length (held_in s)) (names_told r))
+  pub count_settled : Settles (λ (r : Result Pairs Refusal). Counts (RetainedStore s) (length (held_in s)) (names_told r))
   count_settled r q x y = once r q (counts_settled (decided Retained s all) x y)
     where
-      once : (r q : Names) → names_told r ≡ names_told q → r ≡ q
-      once (Held n) (Held m) e = ap {B = Names} (λ (x : ℕ). Held (record { 0 = x })) (same_answer e)
-      once (Refused x) (Refused y) e = cc
-      once (Held n) (Refused y) e = cc
-      once (Refused x) (Held m) e = cc
+      once : (r q : Result Pairs Refusal) → names_told r ≡ names_told q → r ≡ q
+      once (Ok n) (Ok m) e = ap {B = Result Pairs Refusal} (λ (x : ℕ). Ok (record { 0 = x })) (same_answer e)
+      once (Err x) (Err y) e = cc
+      once (Ok n) (Err y) e = cc
+      once (Err x) (Ok m) e = cc

@@ -1,4 +1,5 @@
 -- A store of retained names, and the path of a name in it. Assumes nothing.
+use Rattle.std.specs.Prelude.{Ok}
 use mathlib.Core.Path.{◌≡◌, ap, ◌∙◌}
 use mathlib.Core.Bool.{false, not}
 use mathlib.Core.List.{List, [], ◌∷◌}
@@ -9,7 +10,6 @@ use Rattle.level.specs.Levels.{split}
 use Rattle.level.specs.Places.{first}
 use Rattle.level.proofs.Split.{split_cons, after}
 use Rattle.topic.specs.Answers.{checked}
-use Rattle.topic.specs.declared.Checked.TheVariants.{Accepted}
 use Rattle.held.specs.Room.{level_cells, full_rules, room_rules, depth_rule}
 use Rattle.held.specs.Retained.{Stored, has_filter, set_held}
 use Rattle.held.specs.Forest.{Forest, held}
@@ -62,7 +62,7 @@ module _ (s : List ℕ) (st : RetainedStore s) (f : List ℕ) where
     rooms_are = depth-first f few (room_rules (room_at s) (has_filter (split f) (held_in s)) (set_held (split f) x (held_in s))) ∙ only_rooms
 
     -- what is then held fits, and so do its units
-    module _ (q : fitting s (length (missing (split f) F)) (weigh level_cells (missing (split f) F)) ≡ Accepted) where
+    module _ (q : fitting s (length (missing (split f) F)) (weigh level_cells (missing (split f) F)) ≡ Ok tt) where
       pub set-within : Within (room_at s) (held (set_f (split f) x F))
       set-within =
           let i = set_text f F st.well x in

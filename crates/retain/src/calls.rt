@@ -7,19 +7,23 @@ ghost use Rattle.held.specs.Retained.{set, sweep};
 ghost use Rattle.edit.specs.Calls.{Calls, Does};
 ghost use Rattle.retain.specs.Calls.{retained_store, stored_as};
 
-use crate::{Moment, erasing, setting};
-use edit::Changed;
+use crate::{erasing, setting};
 use refusal::Refusal;
 use region::{Kind, Shape};
-use topic::Checked;
 
-// Sets the record of a name: 1 if the name is new, 2 if its record was replaced. With a payload of length 0 the name is erased:
+// Sets the record of a name, which expires at a moment in milliseconds of the caller's clock, or never: 1 if the name is new, 2 if its record was replaced. With a payload of length 0 the name is erased:
 // 3 if it was held, 4 if not.
-pub fn set(region: &mut [u8], name: &[u8], payload: u64, handle: u32, moment: Moment) -> Changed
+pub fn set(
+    region: &mut [u8],
+    name: &[u8],
+    payload: u64,
+    handle: u32,
+    moment: Option<u64>,
+) -> Result<u64, Refusal>
     ensures { Calls retained_store (set name.now payload (stored_as handle moment)) region.old region.new result }
 {
     if !audit::is_store(region, Kind::Retained) {
-        return Changed::Refused(Refusal::NotAStore);
+        return Err(Refusal::NotAStore);
     }
     set_known(region, name, payload, handle, moment)
 }
@@ -30,14 +34,11 @@ pub fn set_known(
     name: &[u8],
     payload: u64,
     handle: u32,
-    moment: Moment,
-) -> Changed
+    moment: Option<u64>,
+) -> Result<u64, Refusal>
     ensures { Does retained_store (set name.now payload (stored_as handle moment)) region.old region.new result }
 {
-    let text = topic::is_valid_topic_name(name);
-    if let Checked::Refused(r) = text {
-        return Changed::Refused(r);
-    }
+    topic::is_valid_topic_name(name)?;
     if payload == 0 {
         return erasing::erase_accepted(region, name);
     }
@@ -45,31 +46,30 @@ pub fn set_known(
 }
 
 // In the units of a store.
-fn sweep_in(s: &mut [u8], base: usize, n: usize, room: usize, clock: u64) -> Changed
+fn sweep_in(s: &mut [u8], base: usize, n: usize, room: usize, clock: u64) -> Result<u64, Refusal>
     requires { UnitsOf s.old base n room }
     ensures { Does retained_store (sweep clock) s.old s.new result }
 {
     let gone = sweep::remove_expired(s, base, n, clock);
-    Changed::Done(gone as u64)
+    Ok(gone as u64)
 }
 
 // Removes every record that has expired by now, and answers how many. It is one pass over the store.
-pub fn remove_expired(region: &mut [u8], clock: u64) -> Changed
+pub fn remove_expired(region: &mut [u8], clock: u64) -> Result<u64, Refusal>
     ensures { Calls retained_store (sweep clock) region.old region.new result }
 {
     if !audit::is_store(region, Kind::Retained) {
-        return Changed::Refused(Refusal::NotAStore);
+        return Err(Refusal::NotAStore);
     }
     remove_expired_known(region, clock)
 }
 
 // The same without the test of the region.
-pub fn remove_expired_known(region: &mut [u8], clock: u64) -> Changed
+pub fn remove_expired_known(region: &mut [u8], clock: u64) -> Result<u64, Refusal>
     ensures { Does retained_store (sweep clock) region.old region.new result }
 {
-    let shape = region::shape_of(region);
-    let Shape::Units { base, used, room } = shape else {
-        return Changed::Refused(Refusal::NotAStore);
+    let Some(Shape { base, used, room }) = region::shape_of(region) else {
+        return Err(Refusal::NotAStore);
     };
     sweep_in(region, base, used, room, clock)
 }

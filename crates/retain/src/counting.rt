@@ -5,15 +5,14 @@ ghost use Rattle.edit.specs.Counts.{Counts};
 ghost use Rattle.retain.specs.Calls.{held_in};
 ghost use Rattle.retain.specs.Counted.{names_told};
 
-use crate::Names;
 use refusal::Refusal;
-use region::Kind;
+use region::{Kind, Pairs};
 
-pub fn count(region: &[u8]) -> Names
+pub fn count(region: &[u8]) -> Result<Pairs, Refusal>
     ensures { Counts (RetainedStore region.now) (length (held_in region.now)) (names_told result) }
 {
     if !audit::is_store(region, Kind::Retained) {
-        return Names::Refused(Refusal::NotAStore);
+        return Err(Refusal::NotAStore);
     }
-    Names::Held(region::values_size(region))
+    Ok(region::values_size(region))
 }

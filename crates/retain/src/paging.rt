@@ -3,7 +3,7 @@ ghost use Rattle.region.specs.Shapes.{UnitsOf};
 ghost use Rattle.std.specs.Prelude.{◌≡◌, Bool, ltb, ◌+◌};
 ghost use Rattle.retain.specs.Lookups.{Pages, PagesKnown};
 
-use crate::Paged;
+use crate::Page;
 use refusal::Refusal;
 use region::{Kind, Shape};
 
@@ -12,10 +12,7 @@ fn more_follows(offset: u64, limit: u64, total: usize) -> bool
     ensures { result ≡ ltb (offset + limit) total }
 {
     let all = total as u64;
-    if all < offset {
-        return false;
-    }
-    limit < all - offset
+    offset <= all && limit < all - offset
 }
 
 // A page into a buffer, in the units of a store. It is measured before it is written.
@@ -28,23 +25,22 @@ fn page_in(
     offset: u64,
     limit: u64,
     out: &mut [u8],
-) -> Paged
+) -> Result<Page, Refusal>
     requires { UnitsOf s.now base n room }
     ensures { PagesKnown s.now clock offset limit out.old out.new result }
 {
-    let m = lookup::measure(s, base, n, b"#", clock, offset, limit);
-    let bytes = m.bytes;
-    let records = m.records;
-    let more = more_follows(offset, limit, m.total);
+    let found = lookup::measure(s, base, n, b"#", clock, offset, limit);
+    let bytes = found.bytes;
+    let more = more_follows(offset, limit, found.total);
     if out.len() < bytes {
-        return Paged::Refused(Refusal::ShortRoom { needed: bytes });
+        return Err(Refusal::ShortRoom { needed: bytes });
     }
     pages::write_all(s, base, n, b"#", clock, offset, limit, out);
-    Paged::Given {
+    Ok(Page {
         bytes,
-        records,
+        records: found.records,
         more,
-    }
+    })
 }
 
 // Of the lookup of `#`, `offset` records are skipped and at most `limit` given, as records in the order of the names.
@@ -54,11 +50,11 @@ pub fn get_all_paginated(
     offset: u64,
     limit: u64,
     out: &mut [u8],
-) -> Paged
+) -> Result<Page, Refusal>
     ensures { Pages region.now clock offset limit out.old out.new result }
 {
     if !audit::is_store(region, Kind::Retained) {
-        return Paged::Refused(Refusal::NotAStore);
+        return Err(Refusal::NotAStore);
     }
     get_all_paginated_known(region, clock, offset, limit, out)
 }
@@ -70,12 +66,11 @@ pub fn get_all_paginated_known(
     offset: u64,
     limit: u64,
     out: &mut [u8],
-) -> Paged
+) -> Result<Page, Refusal>
     ensures { PagesKnown region.now clock offset limit out.old out.new result }
 {
-    let shape = region::shape_of(region);
-    let Shape::Units { base, used, room } = shape else {
-        return Paged::Refused(Refusal::NotAStore);
+    let Some(Shape { base, used, room }) = region::shape_of(region) else {
+        return Err(Refusal::NotAStore);
     };
     page_in(region, base, used, room, clock, offset, limit, out)
 }

@@ -1,17 +1,15 @@
 // Setting the record of a name that was accepted.
-ghost use Rattle.std.specs.Prelude.{◌≡◌, ◌≤◌, ◌<◌, length};
+ghost use Rattle.std.specs.Prelude.{◌≡◌, ◌≤◌, ◌<◌, length, Ok};
 ghost use Rattle.level.specs.Levels.{split};
 ghost use Rattle.topic.specs.Rules.{name_rules};
 ghost use Rattle.topic.specs.Answers.{checked};
-ghost use Rattle.topic.specs.declared.Checked.TheVariants.{Accepted};
 ghost use Rattle.region.specs.Shapes.{UnitsOf};
 ghost use Rattle.seek.specs.PathFound.{PathFound};
 ghost use Rattle.held.specs.Retained.{set};
 ghost use Rattle.edit.specs.Calls.{Does};
 ghost use Rattle.retain.specs.Calls.{retained_store, stored_as};
 
-use crate::{Moment, slots, units};
-use edit::Changed;
+use crate::{slots, units};
 use refusal::Refusal;
 use region::Shape;
 use seek::Path;
@@ -25,9 +23,9 @@ fn set_record(
     p: Path,
     name: &[u8],
     handle: u32,
-    moment: Moment,
-) -> Changed
-    requires { UnitsOf s.old base n room × (checked (name_rules name.now) ≡ Accepted) × (length (split name.now) ≤ 128) × PathFound base s.old n name.now p × (length name.now < p.from) }
+    moment: Option<u64>,
+) -> Result<u64, Refusal>
+    requires { UnitsOf s.old base n room × (checked (name_rules name.now) ≡ Ok tt) × (length (split name.now) ≤ 128) × PathFound base s.old n name.now p × (length name.now < p.from) }
     ensures { Does retained_store (set name.now 1 (stored_as handle moment)) s.old s.new result }
 {
     let nodes = p.nodes;
@@ -35,12 +33,12 @@ fn set_record(
     let node = nodes[last];
     let slot = slots::slot_of(s, base, n, node);
     if !slot.sound {
-        return Changed::Refused(Refusal::NotAStore);
+        return Err(Refusal::NotAStore);
     }
     let unit = units::unit_of(handle, moment);
     if slot.held {
         lent::copy_in(s, base + slot.at * 16, &unit);
-        return Changed::Done(2);
+        return Ok(2);
     }
     edit::add_unit(s, base, n, room, nodes, last, node, slot.at, &unit)
 }
@@ -53,9 +51,9 @@ fn set_in(
     room: usize,
     name: &[u8],
     handle: u32,
-    moment: Moment,
-) -> Changed
-    requires { UnitsOf s.old base n room × (checked (name_rules name.now) ≡ Accepted) × (length (split name.now) ≤ 128) }
+    moment: Option<u64>,
+) -> Result<u64, Refusal>
+    requires { UnitsOf s.old base n room × (checked (name_rules name.now) ≡ Ok tt) × (length (split name.now) ≤ 128) }
     ensures { Does retained_store (set name.now 1 (stored_as handle moment)) s.old s.new result }
 {
     let p = seek::find_path(s, base, n, name);
@@ -67,16 +65,20 @@ fn set_in(
 }
 
 // In a region that is a store.
-pub fn set_accepted(s: &mut [u8], name: &[u8], handle: u32, moment: Moment) -> Changed
-    requires { checked (name_rules name.now) ≡ Accepted }
+pub fn set_accepted(
+    s: &mut [u8],
+    name: &[u8],
+    handle: u32,
+    moment: Option<u64>,
+) -> Result<u64, Refusal>
+    requires { checked (name_rules name.now) ≡ Ok tt }
     ensures { Does retained_store (set name.now 1 (stored_as handle moment)) s.old s.new result }
 {
     if 128 < level::level_count(name) {
-        return Changed::Refused(Refusal::TooDeep);
+        return Err(Refusal::TooDeep);
     }
-    let shape = region::shape_of(s);
-    let Shape::Units { base, used, room } = shape else {
-        return Changed::Refused(Refusal::NotAStore);
+    let Some(Shape { base, used, room }) = region::shape_of(s) else {
+        return Err(Refusal::NotAStore);
     };
     set_in(s, base, used, room, name, handle, moment)
 }

@@ -4,7 +4,7 @@ use mathlib.Core.Bool.{Bool, true, false, cond, true≢false}
 use Rattle.level.specs.Kinds.{same}
 use Rattle.held.specs.Order.{Level, level_lt}
 use Rattle.held.proofs.Orders.{level_order, eq-same}
-use Rattle.forest.specs.declared.Order.TheVariants.{Less, Equal, Greater}
+use Rattle.std.specs.declared.cmp.Ordering.TheVariants.{Less, Equal, Greater}
 use Rattle.forest.specs.Compare.{order_of}
 
 pub order-less : (a b : Level) → order_of a b ≡ Less → level_lt a b ≡ true

@@ -1,4 +1,5 @@
 -- The way down along the levels of a text: what each turn has found, and what is left. Assumes nothing.
+use Rattle.std.specs.Prelude.{Result, Ok, Err}
 use mathlib.Core.Path.{◌≡◌, refl, sym, ap, ◌∙◌}
 use mathlib.Core.List.{List, [], ◌∷◌, ◌++◌, append_assoc, append-nil}
 use mathlib.Core.Logic.{⊎_elim}
@@ -19,8 +20,7 @@ use Rattle.region.specs.Layout.{row_units}
 use Rattle.forest.specs.Stands.{raw_in, RawStands}
 use Rattle.forest.specs.Paths.{seek_at, nodes_at, spot_at}
 use Rattle.seek.specs.declared.Child.{Child}
-use Rattle.seek.specs.declared.Child.TheVariants.{At, Nothing}
-use Rattle.seek.specs.Child.{child_of, Inside}
+use Rattle.seek.specs.Child.{child_at, child_of, Inside}
 use Rattle.seek.specs.PathFound.{PathOf, PathFound}
 use Rattle.seek.proofs.Found.{FoundAt, found_at, missed_in}
 
@@ -134,7 +134,7 @@ module _ (base : ℕ) (s : List ℕ) (n : ℕ) (text nodes : List ℕ) (depth lo
       none (l ∷ ls) e = absurd (omega arith)
 
   -- the child with the next level
-  module _ (end : ℕ) (v : Child) (within : from ≤ length text) (ends : end ≡ end_of text from)
+  module _ (end : ℕ) (v : Result Child ℕ) (within : from ≤ length text) (ends : end ≡ end_of text from)
       (answer : RawStands base s (depth + 1) lo hi → v ≡ child_of (take (end - from) (drop from text)) lo (raw_in base s lo hi)) (inside : Inside lo hi v) where
     g : Level
     g = take (end - from) (drop from text)
@@ -146,7 +146,7 @@ module _ (base : ℕ) (s : List ℕ) (n : ℕ) (text nodes : List ℕ) (depth lo
     unfolding g next
     levels = levels_cons text from within ∙ rw (ends, part-first text from, add-one)
 
-    pub path-missing : (i : ℕ) → v ≡ Nothing i → PathFound base s n text (record { nodes = nodes; depth = depth; place = i; from = from })
+    pub path-missing : (i : ℕ) → v ≡ Err i → PathFound base s n text (record { nodes = nodes; depth = depth; place = i; from = from })
     unfolding g
     path-missing i q =
         let b : (lo ≤ i) × (i ≤ max lo hi) = rw q at inside in
@@ -187,7 +187,7 @@ module _ (base : ℕ) (s : List ℕ) (n : ℕ) (text nodes : List ℕ) (depth lo
       rest_next : missing (levels_at text from) (raw_in base s lo hi) ≡ missing (levels_at text next) (raw_in base s e p)
       rest_next = rw levels (missing_hit g (levels_at text next) lo (raw_in base s lo hi) u.own (raw_in base s e p) u.found)
 
-    pub going_next : (i e p : ℕ) → v ≡ At i e p → depth < 128 → Going base s n text (set nodes depth i) (depth + 1) e p (end + 1)
+    pub going_next : (i e p : ℕ) → v ≡ child_at i e p → depth < 128 → Going base s n text (set nodes depth i) (depth + 1) e p (end + 1)
     unfolding g next
     going_next i e p q h =
         let b : (lo ≤ i) × (i < e) × (e ≤ p) × (p ≤ hi) = rw q at inside in

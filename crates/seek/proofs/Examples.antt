@@ -1,5 +1,6 @@
 -- Examples of children and paths, computed; and that each forest stands in some region, so that what the searches promise of one is
 -- no empty promise. Assumes nothing.
+use Rattle.std.specs.Prelude.{Result, Ok, Err}
 use mathlib.Core.Path.{◌≡◌, refl, sym}
 use mathlib.Core.List.{List, [], ◌∷◌, ◌++◌, map, append_assoc}
 use Prim.Native.Nat.{ℕ, ◌+◌, ◌*◌}
@@ -21,8 +22,7 @@ use Rattle.region.proofs.Decoded.{length_units}
 use Rattle.forest.specs.Stands.{Stands}
 use Rattle.forest.specs.Paths.{seek_at, nodes_at, spot_at}
 use Rattle.forest.proofs.StandsLaws.{length_marks}
-use Rattle.seek.specs.declared.Child.TheVariants.{At, Nothing}
-use Rattle.seek.specs.Child.{child_of}
+use Rattle.seek.specs.Child.{child_at, child_of}
 
 abbrev levels : String → Filter
 levels s = split (ascii s)
@@ -32,7 +32,7 @@ abbrev few : Forest ℕ
 few = fork (ascii "a") [] (fork (ascii "b") (1 ∷ []) leaf leaf) (fork (ascii "a!") (2 ∷ []) leaf (fork (ascii "b") (3 ∷ 4 ∷ []) leaf leaf))
 
 -- a child by its level, not by what follows in the text: `a` comes before `a!`, and `aa` would go between `a!` and `b`
-children : map (λ t. child_of (ascii t) 0 few) ("a" ∷ "a!" ∷ "b" ∷ "aa" ∷ "" ∷ "c" ∷ []) ≡ At 0 1 3 ∷ At 3 5 5 ∷ At 5 8 8 ∷ Nothing 5 ∷ Nothing 0 ∷ Nothing 8 ∷ []
+children : map (λ t. child_of (ascii t) 0 few) ("a" ∷ "a!" ∷ "b" ∷ "aa" ∷ "" ∷ "c" ∷ []) ≡ child_at 0 1 3 ∷ child_at 3 5 5 ∷ child_at 5 8 8 ∷ Err 5 ∷ Err 0 ∷ Err 8 ∷ []
 unfolding child_of seek_at kid units_f
 children = refl
 

@@ -1,4 +1,5 @@
 -- A child that was found: its row and its children stand where the answer says, and the children are those of the forest. Assumes nothing.
+use Rattle.std.specs.Prelude.{Result, Ok, Err}
 use mathlib.Core.Path.{◌≡◌, refl, sym, ap, ◌∙◌}
 use mathlib.Core.Bool.{Bool, true, false, cond}
 use mathlib.Core.List.{List}
@@ -16,8 +17,7 @@ use Rattle.forest.specs.Stands.{Stands, raw_in, RawStands}
 use Rattle.forest.specs.Paths.{seek_at, on_hit}
 use Rattle.forest.proofs.StandsLaws.{fork_units, stands_read, stands_kids}
 use Rattle.seek.specs.declared.Child.{Child}
-use Rattle.seek.specs.declared.Child.TheVariants.{At, Nothing}
-use Rattle.seek.specs.Child.{child_of}
+use Rattle.seek.specs.Child.{child_at, child_of}
 use Rattle.seek.proofs.Beside.{beside, beside_node, beside_none, Precede, over_back, seek_behind}
 use Rattle.seek.proofs.Parted.{stands_front, stands_back}
 
@@ -79,8 +79,11 @@ pub record MissedIn {X : Type 0} (g : Level) (lo : ℕ) (F : Forest X) (i : ℕ)
   pub missed : kid g F ≡ miss
   pub place : seek_at g lo F ≡ i
 
-abbrev ByHit : {X : Type 0} → Level → ℕ → Forest X → Hit X → Child
-ByHit g lo F h = on_hit h (Nothing (seek_at g lo F)) (λ v k. At (seek_at g lo F) (seek_at g lo F + row_units g v) (seek_at g lo F + row_units g v + units_f k))
+same_child : {c d : Child} → ◌≡◌ {A = Result Child ℕ} (Ok c) (Ok d) → c ≡ d
+same_child e = cc
+
+abbrev ByHit : {X : Type 0} → Level → ℕ → Forest X → Hit X → Result Child ℕ
+ByHit g lo F h = on_hit h (Err (seek_at g lo F)) (λ v k. child_at (seek_at g lo F) (seek_at g lo F + row_units g v) (seek_at g lo F + row_units g v + units_f k))
 
 module _ {X : Type 0} (u : Form X) (base : ℕ) (s : List ℕ) (g : Level) (d lo hi : ℕ) (F : Forest X) (w : Stands u.write u.Small base s d lo hi F) where
   module _ (own : List X) (k : Forest X) (e : kid g F ≡ hit own k) where
@@ -111,23 +114,24 @@ module _ {X : Type 0} (u : Form X) (base : ℕ) (s : List ℕ) (g : Level) (d lo
           below = stands_kids u base s d (seek_at g lo F) hi g own k c.next back;
         }
 
-  pub found_in : (i e p : ℕ) → At i e p ≡ child_of g lo F → FoundIn u base s g d lo hi F i e p
+  pub found_in : (i e p : ℕ) → child_at i e p ≡ child_of g lo F → FoundIn u base s g d lo hi F i e p
   unfolding child_of
   found_in i e p q = go (kid g F) refl q
     where
-      go : (h : Hit X) → kid g F ≡ h → At i e p ≡ ByHit g lo F h → FoundIn u base s g d lo hi F i e p
+      go : (h : Hit X) → kid g F ≡ h → child_at i e p ≡ ByHit g lo F h → FoundIn u base s g d lo hi F i e p
       go miss h z = let y : ◌≡◌ {A = ℕ} 0 1 = cc in absurd (omega arith)
       go (hit v k) h z =
-          let a : i ≡ seek_at g lo F = cc in
-          let b : e ≡ seek_at g lo F + row_units g v = cc in
-          let c : p ≡ seek_at g lo F + row_units g v + units_f k = cc in
+          let y = same_child z in
+          let a : i ≡ seek_at g lo F = ap (λ (c : Child). c.node) y in
+          let b : e ≡ seek_at g lo F + row_units g v = ap (λ (c : Child). c.end) y in
+          let c : p ≡ seek_at g lo F + row_units g v + units_f k = ap (λ (c : Child). c.past) y in
           rw (a, b, c) (found-kid v k h)
 
-pub missed_in : {X : Type 0} (g : Level) (lo : ℕ) (F : Forest X) (i : ℕ) → Nothing i ≡ child_of g lo F → MissedIn g lo F i
+pub missed_in : {X : Type 0} (g : Level) (lo : ℕ) (F : Forest X) (i : ℕ) → Err i ≡ child_of g lo F → MissedIn g lo F i
 unfolding child_of
 missed_in {X} g lo F i q = go (kid g F) refl q
   where
-    go : (h : Hit X) → kid g F ≡ h → Nothing i ≡ ByHit g lo F h → MissedIn g lo F i
+    go : (h : Hit X) → kid g F ≡ h → Err i ≡ ByHit g lo F h → MissedIn g lo F i
     go miss h z = record { missed = h; place = let y : i ≡ seek_at g lo F = cc in sym y }
     go (hit v k) h z = let y : ◌≡◌ {A = ℕ} 0 1 = cc in absurd (omega arith)
 
@@ -141,7 +145,7 @@ pub record FoundAt (base : ℕ) (s : List ℕ) (g : Level) (d lo hi i e p : ℕ)
   pub node : Stands whole Whole base s d i p (fork g own (raw_in base s e p) leaf)
   pub kids : RawStands base s (d + 1) e p
 
-pub found_at : (base : ℕ) (s : List ℕ) (g : Level) (d lo hi : ℕ) → RawStands base s d lo hi → (i e p : ℕ) → At i e p ≡ child_of g lo (raw_in base s lo hi) → FoundAt base s g d lo hi i e p
+pub found_at : (base : ℕ) (s : List ℕ) (g : Level) (d lo hi : ℕ) → RawStands base s d lo hi → (i e p : ℕ) → child_at i e p ≡ child_of g lo (raw_in base s lo hi) → FoundAt base s g d lo hi i e p
 found_at base s g d lo hi w i e p q =
     let f = found_in wholes base s g d lo hi (raw_in base s lo hi) w i e p q in
     let z : raw_in base s e p ≡ f.kids = stands_read wholes base s (d + 1) e p f.kids f.below in

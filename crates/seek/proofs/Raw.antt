@@ -1,5 +1,6 @@
 -- A forest that stands in a region, whatever its nodes hold, stands there as the raw one too; and a search, a path and what is
 -- missing of it are the same in both. Assumes nothing.
+use Rattle.std.specs.Prelude.{Result, Ok, Err}
 use mathlib.Core.Path.{◌≡◌, refl, sym, ap, ◌∙◌}
 use mathlib.Core.Bool.{Bool, true, false, cond}
 use mathlib.Core.List.{List, [], ◌∷◌, map}
@@ -22,7 +23,7 @@ use Rattle.forest.specs.Stands.{Stands, raw_in, RawStands, map_f}
 use Rattle.forest.specs.Paths.{seek_at, on_hit, nodes_at, spot_at}
 use Rattle.forest.proofs.StandsLaws.{stands_read}
 use Rattle.seek.specs.declared.Child.{Child}
-use Rattle.seek.specs.Child.{child_of}
+use Rattle.seek.specs.Child.{child_at, child_of}
 
 -- a node with a function done to all that it holds and all below it
 abbrev map_hit : {X Y : Type 0} → (X → Y) → Hit X → Hit Y
@@ -141,7 +142,7 @@ module _ {X : Type 0} (u : Form X) where
     raw_stands = rw raw_is map_stands
 
     -- what `find_child` answers
-    pub child_stands : (g : Level) (v : Child) → (RawStands base s d lo hi → v ≡ child_of g lo (raw_in base s lo hi)) → v ≡ child_of g lo F
+    pub child_stands : (g : Level) (v : Result Child ℕ) → (RawStands base s d lo hi → v ≡ child_of g lo (raw_in base s lo hi)) → v ≡ child_of g lo F
     child_stands g v e = e raw_stands ∙ ap (child_of g lo) raw_is ∙ child-map u.write g lo F
 
   -- what is written down in a region stands there

@@ -1,4 +1,5 @@
 -- A sibling of a row that stands, at the unit m: what stands before it and behind it, and where a child is found by its level. Assumes nothing.
+use Rattle.std.specs.Prelude.{Result, Ok, Err}
 use mathlib.Core.Path.{◌≡◌, sym, ◌∙◌}
 use mathlib.Core.Bool.{true}
 use mathlib.Core.List.{List}
@@ -16,14 +17,13 @@ use Rattle.forest.specs.Places.{row_end, kids_end, level_in}
 use Rattle.forest.specs.Stands.{Stands}
 use Rattle.forest.specs.Paths.{seek_at}
 use Rattle.forest.proofs.StandsLaws.{fork_units, stands_level, stands_end, stands_past, stands_next}
-use Rattle.seek.specs.declared.Child.TheVariants.{At}
-use Rattle.seek.specs.Child.{child_of}
+use Rattle.seek.specs.Child.{child_at, child_of}
 use Rattle.seek.specs.Probe.{mark_at}
 use Rattle.seek.proofs.Beside.{beside, beside_assoc, units_beside, Precede, precede-first, precede-less, precede_node, rows_back, child_behind, child_over}
 use Rattle.seek.proofs.Parted.{stands_front, stands_back, cut_stands}
 
 child_here : {X : Type 0} (g : Level) (at : ℕ) (t : Level) (v : List X) (k n : Forest X) → t ≡ g
-    → child_of g at (fork t v k n) ≡ At at (at + row_units t v) (at + row_units t v + units_f k)
+    → child_of g at (fork t v k n) ≡ child_at at (at + row_units t v) (at + row_units t v + units_f k)
 unfolding child_of seek_at kid
 child_here g at t v k n e = rw (e, level_order.irrefl g, level_order.eq_refl g)
 
@@ -34,7 +34,7 @@ pub record Turn (base : ℕ) (s : List ℕ) (g : Level) (d a b m : ℕ) (F : For
   pub stands_behind : Stands whole Whole base s d (kids_end base s m b) b behind
   pub less : level_lt (level_in base s m b) g ≡ true → child_of g (kids_end base s m b) behind ≡ child_of g a F
   pub greater : level_lt g (level_in base s m b) ≡ true → child_of g a before ≡ child_of g a F
-  pub equal : level_in base s m b ≡ g → At m (row_end base s m b) (kids_end base s m b) ≡ child_of g a F
+  pub equal : level_in base s m b ≡ g → child_at m (row_end base s m b) (kids_end base s m b) ≡ child_of g a F
 
 -- the row parted before it
 module _ (base : ℕ) (s : List ℕ) (g : Level) (d a b m : ℕ) (F : Forest (List ℕ)) (w : Stands whole Whole base s d a b F)
@@ -74,7 +74,7 @@ module _ (base : ℕ) (s : List ℕ) (g : Level) (d a b m : ℕ) (F : Forest (Li
       let r = rows_back P (fork t v k n) parts.rows in
       rw is (sym (child_over g a P (fork t v k n) (p, over_mono (λ v. v) g t n p r.0)))
 
-  child-equal : t ≡ g → At m (m + row_units t v) (m + row_units t v + units_f k) ≡ child_of g a F
+  child-equal : t ≡ g → child_at m (m + row_units t v) (m + row_units t v + units_f k) ≡ child_of g a F
   child-equal e =
       let u : Precede g P = rw e at precedes in
       let q : a + units_f P ≡ m = sym at in

@@ -1,12 +1,13 @@
 // A child of a row, by its level.
-ghost use Rattle.std.specs.Prelude.{◌≡◌, ◌+◌, ◌≤◌, ◌<◌, max, length};
+ghost use Rattle.std.specs.Prelude.{◌≡◌, ◌+◌, ◌≤◌, ◌<◌, length};
 ghost use Rattle.forest.specs.Places.{unit_at};
 ghost use Rattle.forest.specs.Stands.{raw_in, RawStands};
 ghost use Rattle.seek.specs.Child.{child_of, Inside};
 ghost use Rattle.seek.specs.Probe.{Probed};
 
 use crate::{Child, Probe};
-use forest::{Order, Row};
+use forest::Row;
+use std::cmp::Ordering;
 
 // How many siblings a search passes before it halves the row, and how many are left of them behind the first.
 const PASSED: usize = 8;
@@ -61,12 +62,6 @@ fn probe(s: &[u8], a: usize, b: usize, d: usize, few: usize) -> Probe
     step_back(s, a, a + (b - a) / 2, b, d, 64)
 }
 
-fn larger(a: usize, b: usize) -> usize
-    ensures { result ≡ max a b }
-{
-    if a < b { b } else { a }
-}
-
 // How many siblings are still passed after the one at unit m: none where it is the first of a row that seems to have many more of
 // its size, in the middle too. A level of one byte may be a wildcard, which says nothing of the others.
 fn still_passed(s: &[u8], few: usize, r: Row, m: usize, b: usize, d: usize) -> usize
@@ -88,8 +83,15 @@ fn still_passed(s: &[u8], few: usize, r: Row, m: usize, b: usize, d: usize) -> u
     p.few
 }
 
-// The child with a level, in the row at depth d whose units go from lo up to hi.
-pub fn find_child(s: &[u8], base: usize, lo: usize, hi: usize, d: usize, level: &[u8]) -> Child
+// The child with a level, in the row at depth d whose units go from lo up to hi; or the unit where it would go.
+pub fn find_child(
+    s: &[u8],
+    base: usize,
+    lo: usize,
+    hi: usize,
+    d: usize,
+    level: &[u8],
+) -> Result<Child, usize>
     requires { (unit_at base hi ≤ length s.now) × (64 + hi ≤ base) × (d < 255) }
     ensures { (RawStands base s.now d lo hi → result ≡ child_of level.now lo (raw_in base s.now lo hi)) × Inside lo hi result }
 {
@@ -101,25 +103,24 @@ pub fn find_child(s: &[u8], base: usize, lo: usize, hi: usize, d: usize, level: 
         let m = p.node;
         let mid = p.mid;
         few = p.few;
-        let o = forest::compare(forest::level_at(s, base, m, b), level);
-        match o {
-            Order::Less => {
+        match forest::compare(forest::level_at(s, base, m, b), level) {
+            Ordering::Less => {
                 let r = forest::row_at(s, base, m, b);
-                a = larger(r.past, mid + 1);
+                a = r.past.max(mid + 1);
                 few = still_passed(s, few, r, m, b, d);
             }
-            Order::Equal => {
+            Ordering::Equal => {
                 let row = forest::row_at(s, base, m, b);
-                return Child::At {
+                return Ok(Child {
                     node: m,
                     end: row.end,
                     past: row.past,
-                };
+                });
             }
-            Order::Greater => {
+            Ordering::Greater => {
                 b = m;
             }
         }
     }
-    Child::Nothing { place: a }
+    Err(a)
 }

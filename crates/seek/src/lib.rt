@@ -10,17 +10,12 @@ mod paths;
 pub use children::find_child;
 pub use paths::find_path;
 
-// A child of a row: its first unit, the unit behind its row, and the unit behind all below it; or the unit where it would go.
+// A child of a row: its first unit, the unit behind its row, and the unit behind all below it.
 #[derive(Clone, Copy)]
-pub enum Child {
-    At {
-        node: usize,
-        end: usize,
-        past: usize,
-    },
-    Nothing {
-        place: usize,
-    },
+pub struct Child {
+    pub node: usize,
+    pub end: usize,
+    pub past: usize,
 }
 
 // Where a search looks next: the first unit of a sibling, a unit that it holds, and how many siblings are passed before the row is halved.

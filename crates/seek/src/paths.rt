@@ -3,7 +3,7 @@ ghost use Rattle.std.specs.Prelude.{◌+◌, ◌≤◌, length};
 ghost use Rattle.forest.specs.Places.{unit_at};
 ghost use Rattle.seek.specs.PathFound.{PathFound};
 
-use crate::{Child, Path};
+use crate::Path;
 
 // From the top row, whose units go from 0 up to n, down as far as the levels of the text are there.
 pub fn find_path(s: &[u8], base: usize, n: usize, text: &[u8]) -> Path
@@ -21,16 +21,15 @@ pub fn find_path(s: &[u8], base: usize, n: usize, text: &[u8]) -> Path
             break;
         }
         let stop = level::level_end(text, from);
-        let child = crate::find_child(s, base, lo, hi, depth + 1, &text[from..stop]);
-        match child {
-            Child::At { node, end, past } => {
-                nodes[depth] = node;
+        match crate::find_child(s, base, lo, hi, depth + 1, &text[from..stop]) {
+            Ok(child) => {
+                nodes[depth] = child.node;
                 depth += 1;
-                lo = end;
-                hi = past;
+                lo = child.end;
+                hi = child.past;
                 from = stop + 1;
             }
-            Child::Nothing { place } => {
+            Err(place) => {
                 return Path {
                     nodes,
                     depth,

@@ -1,4 +1,5 @@
 -- One row of a sweep, in the words of the code: whether its record stays, its units moved down, its head put right. Assumes nothing.
+use Rattle.std.specs.Prelude.{None, Option, Some}
 use mathlib.Core.Path.{◌≡◌, sym, ap, ◌∙◌}
 use mathlib.Core.List.{List, ◌∷◌, ◌++◌}
 use Prim.Native.Nat.{ℕ, ◌+◌, ◌-◌, ◌*◌, ◌/◌, ◌≤◌, ◌<◌, min}
@@ -20,17 +21,15 @@ use Rattle.room.proofs.RunLaws.{row_marked}
 use Rattle.sweep.specs.declared.Kept.{Kept}
 use Rattle.sweep.specs.declared.Stay.{Stay}
 use Rattle.sweep.specs.Moved.{StaysAt, row_moved, Begun, ended}
-use Rattle.lookup.specs.declared.Life.{Life}
-use Rattle.lookup.specs.declared.Life.TheVariants.{Over, Left}
 use Rattle.lookup.specs.Lives.{life_of}
 use Rattle.lookup.proofs.OwnLaws.{over_is, left_is}
 
 -- the record of a unit, by the time that it has left
-module _ (clock base : ℕ) (s : List ℕ) (at end : ℕ) (some : at < end) {life : Life} (lives : life ≡ life_of clock (stored_of (part (unit_at base at) 16 s))) where
-  pub stays-not : life ≡ Over → StaysAt clock base s at end 0
+module _ (clock base : ℕ) (s : List ℕ) (at end : ℕ) (some : at < end) {life : Option ℕ} (lives : life ≡ life_of clock (stored_of (part (unit_at base at) 16 s))) where
+  pub stays-not : life ≡ None → StaysAt clock base s at end 0
   stays-not is = record { within = omega arith; one = omega arith; stays = λ q. rw (over_is clock (stored_of (part (unit_at base at) 16 s)) (sym is ∙ lives)) }
 
-  pub stays_yet : (m : ℕ) → life ≡ Left m → StaysAt clock base s at end 1
+  pub stays_yet : (m : ℕ) → life ≡ Some m → StaysAt clock base s at end 1
   stays_yet m is = record { within = omega arith; one = omega arith; stays = λ q. rw (left_is clock m (stored_of (part (unit_at base at) 16 s)) (sym is ∙ lives)).0 }
 
 -- the level of a row

@@ -1,5 +1,5 @@
 // A node before its children are swept, and after.
-ghost use Rattle.std.specs.Prelude.{◌≡◌, ◌+◌, ◌-◌, ◌*◌, ◌≤◌, ◌<◌, min, ◌++◌, length};
+ghost use Rattle.std.specs.Prelude.{◌≡◌, ◌+◌, ◌-◌, ◌*◌, ◌≤◌, ◌<◌, ◌++◌, length};
 ghost use Rattle.lent.specs.Numbers.{bytes};
 ghost use Rattle.lent.specs.Parts.{patch};
 ghost use Rattle.forest.specs.Places.{unit_at, RowAt};
@@ -7,12 +7,6 @@ ghost use Rattle.sweep.specs.Moved.{Begun, ended};
 
 use crate::{Kept, Stay, row};
 use forest::Row;
-
-fn smaller(a: usize, b: usize) -> usize
-    ensures { result ≡ min a b }
-{
-    if b < a { b } else { a }
-}
 
 // Moves what stays of the row that begins at unit i down to unit `to`.
 pub fn begin_node(
@@ -29,7 +23,7 @@ pub fn begin_node(
     ensures { Begun clock base depth i hi row to s.old s.new result }
 {
     let end = row.end;
-    let units = smaller((row.len + 23) / 16, end - i);
+    let units = ((row.len + 23) / 16).min(end - i);
     let own = row::record_stays(s, base, i + units, end, clock);
     let cells = row::cells_at(s, base, i, hi);
     row::move_row(s, base, i, to, units + own, depth);

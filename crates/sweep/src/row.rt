@@ -6,8 +6,6 @@ ghost use Rattle.held.specs.Room.{level_cells};
 ghost use Rattle.forest.specs.Places.{unit_at, len_at, level_in};
 ghost use Rattle.sweep.specs.Moved.{StaysAt, row_moved};
 
-use lookup::Life;
-
 // How many records stay of the one that stands in unit `at`, if that is before unit `end`.
 pub fn record_stays(s: &[u8], base: usize, at: usize, end: usize, clock: u64) -> usize
     requires { (at ≤ end) × (unit_at base end ≤ length s.now) }
@@ -16,8 +14,7 @@ pub fn record_stays(s: &[u8], base: usize, at: usize, end: usize, clock: u64) ->
     if end <= at {
         return 0;
     }
-    let life = lookup::life_at(s, base, at, clock);
-    let Life::Left(_) = life else {
+    let Some(_) = lookup::life_at(s, base, at, clock) else {
         return 0;
     };
     1

@@ -1,4 +1,6 @@
 -- Inserting a value: what each answer rests on. Assumes nothing.
+use Rattle.std.specs.Prelude.{Err, Ok, Result}
+use Rattle.refusal.specs.declared.Refusal.{Refusal}
 use mathlib.Core.Path.{◌≡◌, refl, sym, ap, ◌∙◌}
 use mathlib.Core.Bool.{true, false, not, true≢false}
 use mathlib.Core.List.{List, []}
@@ -11,7 +13,6 @@ use Rattle.level.specs.Levels.{split}
 use Rattle.level.specs.Places.{levels_at}
 use Rattle.topic.specs.Rules.{filter_rules}
 use Rattle.topic.specs.Answers.{checked}
-use Rattle.topic.specs.declared.Checked.TheVariants.{Accepted}
 use Rattle.held.specs.Order.{Filter}
 use Rattle.held.specs.Ascending.{member}
 use Rattle.held.specs.Room.{level_cells}
@@ -35,8 +36,6 @@ use Rattle.room.specs.Changes.{made_unit, made_chain}
 use Rattle.change.specs.Ways.{ahead}
 use Rattle.change.proofs.EditLaws.{Becomes}
 use Rattle.change.proofs.StoreLaws.{store_holds}
-use Rattle.edit.specs.declared.Changed.{Changed}
-use Rattle.edit.specs.declared.Changed.TheVariants.{Done, Refused}
 use Rattle.edit.specs.Calls.{Step, Does}
 use Rattle.edit.specs.Adding.{fitting, Added, no_fit, no-room, added, ChainAdded}
 use Rattle.edit.proofs.KnownPath.{stands, own_is, node_is}
@@ -50,14 +49,14 @@ use Rattle.trie.proofs.StepLaws.{insert_refused, insert_there, insert_new}
 use Rattle.trie.proofs.StoredPath.{held_is, rooms_are, inserted-within, inserted_units}
 use Rattle.trie.proofs.StoredSlot.{here, own_asc, slot-stored}
 
-module _ (s : List ℕ) {base n room : ℕ} (units : UnitsOf s base n room) (f : List ℕ) (fine : checked (filter_rules f) ≡ Accepted) (few : length (split f) ≤ 128) {p : Path} (pf : PathFound base s n f p)
+module _ (s : List ℕ) {base n room : ℕ} (units : UnitsOf s base n room) (f : List ℕ) (fine : checked (filter_rules f) ≡ Ok tt) (few : length (split f) ≤ 128) {p : Path} (pf : PathFound base s n f p)
     (full : length p.nodes ≡ 128) where
   -- a new value, once the room was tested: the region then holds the forest with it
   module _ (st : SubscriptionStore s) (x : ℕ) (absent : member eqb x (values_at (split f) (hit [] (forest_at value_of s))) ≡ false) (nodes cells more : ℕ)
       (fits : fitting s (length (missing (split f) (forest_at value_of s))) (weigh level_cells (missing (split f) (forest_at value_of s))) ≡ fitting s nodes cells)
       (size : units_f (insert_f (split f) x (forest_at value_of s)) ≡ n + more) (made : List ℕ)
-      (becomes : fitting s nodes cells ≡ Accepted → Becomes values 1 s made (insert_f (split f) x (forest_at value_of s))) where
-    new-pair : {t : List ℕ} {r : Changed} → Added s n room nodes cells more made t r → Step subscription_store (insert f x) s t r
+      (becomes : fitting s nodes cells ≡ Ok tt → Becomes values 1 s made (insert_f (split f) x (forest_at value_of s))) where
+    new-pair : {t : List ℕ} {r : Result ℕ Refusal} → Added s n room nodes cells more made t r → Step subscription_store (insert f x) s t r
     new-pair (no_fit {r = r} z) = insert_refused s st f x fine r (rooms_are s st f units fine few x absent ∙ fits ∙ z)
     new-pair (no-room z g) = absurd (omega (arith, size, g, inserted_units s st f units fine few x absent (fits ∙ z)))
     new-pair (added z g) = insert_new s st f x fine few (held_is s st f x ∙ absent) (rooms_are s st f units fine few x absent ∙ fits ∙ z) made (becomes z)
@@ -70,10 +69,10 @@ module _ (s : List ℕ) {base n room : ℕ} (units : UnitsOf s base n room) (f :
     own_held : (st : SubscriptionStore s) → values_at (split f) (hit [] (forest_at value_of s)) ≡ (here s units f few pf q full st).own
     own_held st = own_is values 1 s units (forest_at value_of s) (store_holds s st) f few pf q
 
-    pub value_broken : not slot.sound ≡ true → Does subscription_store (insert f x) s s (Refused NotAStore)
+    pub value_broken : not slot.sound ≡ true → Does subscription_store (insert f x) s s (Err NotAStore)
     value_broken h = record { does = λ (st : SubscriptionStore s). absurd (true≢false (sym h ∙ ap (λ (a : Slot). not a.sound) (stored st))) }
 
-    pub value_there : slot.held ≡ true → Does subscription_store (insert f x) s s (Done 0)
+    pub value_there : slot.held ≡ true → Does subscription_store (insert f x) s s (Ok 0)
     value_there h =
         record {
           does = λ (st : SubscriptionStore s).
@@ -105,18 +104,18 @@ module _ (s : List ℕ) {base n room : ℕ} (units : UnitsOf s base n room) (f :
       unfolding insert_f
       more = unit-more values 1 s units F (store_holds s st) f few pf full (with_value x) q x apart.before apart.after apart.all apart.with
 
-      becomes : fitting s 0 0 ≡ Accepted → Becomes values 1 s (made_unit base n (take (p.depth - 1) p.nodes) node (units_for + (spot_from 0 x (here s units f few pf q full st).own).at) (value_bytes x) s) (insert_f (split f) x F)
+      becomes : fitting s 0 0 ≡ Ok tt → Becomes values 1 s (made_unit base n (take (p.depth - 1) p.nodes) node (units_for + (spot_from 0 x (here s units f few pf q full st).own).at) (value_bytes x) s) (insert_f (split f) x F)
       unfolding insert_f
       becomes z =
           let i = insert_text f (ap accepted fine) x F st.well in
           rw apart.count at (unit-held values 1 s units F (store_holds s st) f few pf full (with_value x) q x apart.before apart.after apart.all apart.with small i.1.full
           (inserted-within s st f units fine few x absent (fits ∙ z)) (at ∙ node_is values 1 s units F (store_holds s st) f few pf q full))
 
-      new_value : {t : List ℕ} {r : Changed} → Added s n room 0 0 1 (made_unit base n (take (p.depth - 1) p.nodes) node (units_for + (spot_from 0 x (here s units f few pf q full st).own).at) (value_bytes x) s) t r
+      new_value : {t : List ℕ} {r : Result ℕ Refusal} → Added s n room 0 0 1 (made_unit base n (take (p.depth - 1) p.nodes) node (units_for + (spot_from 0 x (here s units f few pf q full st).own).at) (value_bytes x) s) t r
           → Step subscription_store (insert f x) s t r
       new_value a = new-pair st x absent 0 0 1 fits more _ becomes a
 
-    pub value_added : slot.held ≡ false → x < 256 ^ 4 → {unit : List ℕ} → unit ≡ value_bytes x → {t : List ℕ} {r : Changed}
+    pub value_added : slot.held ≡ false → x < 256 ^ 4 → {unit : List ℕ} → unit ≡ value_bytes x → {t : List ℕ} {r : Result ℕ Refusal}
         → Added s n room 0 0 1 (made_unit base n (take (p.depth - 1) p.nodes) node slot.at unit s) t r → Does subscription_store (insert f x) s t r
     value_added h small eu d =
         record {
@@ -142,16 +141,16 @@ module _ (s : List ℕ) {base n room : ℕ} (units : UnitsOf s base n room) (f :
       unfolding insert_f
       chain_size = chain_more values 1 s units G (store_holds s st) f few pf full (with_value x) q x refl load w
 
-      chain_becomes : fitting s load.nodes load.cells ≡ Accepted
+      chain_becomes : fitting s load.nodes load.cells ≡ Ok tt
           → Becomes values 1 s (made_chain base n (take p.depth p.nodes) p.place (p.depth + 1) (value_bytes x) (levels_at f p.from) load s) (insert_f (split f) x G)
       unfolding insert_f
       chain_becomes z =
           let i = insert_text f (ap accepted fine) x G st.well in
           chain_held values 1 s units G (store_holds s st) f few pf full (with_value x) q x refl load w small size i.1.full (inserted-within s st f units fine few x none (chain_fits ∙ z))
 
-      new-chain : {t : List ℕ} {r : Changed}
+      new-chain : {t : List ℕ} {r : Result ℕ Refusal}
           → Added s n room load.nodes load.cells load.units (made_chain base n (take p.depth p.nodes) p.place (p.depth + 1) (value_bytes x) (levels_at f p.from) load s) t r → Step subscription_store (insert f x) s t r
       new-chain a = new-pair st x none load.nodes load.cells load.units chain_fits chain_size _ chain_becomes a
 
-    pub chain_does : {unit : List ℕ} → unit ≡ value_bytes x → {t : List ℕ} {r : Changed} → ChainAdded s base n room p f unit t r → Does subscription_store (insert f x) s t r
+    pub chain_does : {unit : List ℕ} → unit ≡ value_bytes x → {t : List ℕ} {r : Result ℕ Refusal} → ChainAdded s base n room p f unit t r → Does subscription_store (insert f x) s t r
     chain_does eu a = record { does = λ (st : SubscriptionStore s). new-chain st a.load a.wanted (rw eu at a.adds) }

@@ -1,5 +1,6 @@
 -- Before a store is changed: a filter that is too deep or of which nodes are missing, a header that is no store's, and how long an
 -- accepted filter is. Assumes nothing.
+use Rattle.std.specs.Prelude.{Err, None, Ok, Option}
 use mathlib.Core.Path.{◌≡◌, refl, sym, ap, ◌∙◌}
 use mathlib.Core.List.{List, [], ◌∷◌}
 use Prim.Native.Nat.{ℕ, ◌≤◌, ◌<◌}
@@ -12,7 +13,6 @@ use Rattle.level.specs.Levels.{split}
 use Rattle.level.proofs.Join.{join-split}
 use Rattle.topic.specs.Rules.{filter_rules}
 use Rattle.topic.specs.Answers.{checked}
-use Rattle.topic.specs.declared.Checked.TheVariants.{Accepted}
 use Rattle.held.specs.Order.{same_pair}
 use Rattle.held.specs.Ascending.{All, member}
 use Rattle.held.specs.Room.{room_rules}
@@ -23,31 +23,29 @@ use Rattle.held.proofs.Texts.{filter_written}
 use Rattle.region.specs.Units.{value_of}
 use Rattle.region.specs.Store.{room_at, forest_at, Accepts, SubscriptionStore}
 use Rattle.region.specs.declared.Shape.{Shape}
-use Rattle.region.specs.declared.Shape.TheVariants.{Not}
 use Rattle.region.specs.Shapes.{UnitsOf, ShapeOf}
 use Rattle.region.proofs.Instances.{values}
 use Rattle.seek.specs.declared.Path.{Path}
 use Rattle.seek.specs.PathFound.{PathFound}
 use Rattle.seek.proofs.PathLaws.{holds-none}
 use Rattle.change.proofs.StoreLaws.{store_holds}
-use Rattle.edit.specs.declared.Changed.TheVariants.{Done, Refused}
 use Rattle.edit.specs.Calls.{Does}
 use Rattle.edit.proofs.KnownPath.{deep_rule, no_units-told, stands}
 use Rattle.trie.specs.Calls.{held_in, subscription_store}
 use Rattle.trie.proofs.StepLaws.{insert_refused, remove-none}
 use Rattle.trie.proofs.StoredPath.{held_is}
 
-pub accepted_size : (f : List ℕ) → checked (filter_rules f) ≡ Accepted → length f ≤ 65535
+pub accepted_size : (f : List ℕ) → checked (filter_rules f) ≡ Ok tt → length f ≤ 65535
 accepted_size f e = rw (join-split f) at (filter_written f (ap accepted e)).short
 
-pub too_deep : (s f : List ℕ) (x : ℕ) → checked (filter_rules f) ≡ Accepted → {k : ℕ} → k ≡ length (split f) → 128 < k → Does subscription_store (insert f x) s s (Refused TooDeep)
+pub too_deep : (s f : List ℕ) (x : ℕ) → checked (filter_rules f) ≡ Ok tt → {k : ℕ} → k ≡ length (split f) → 128 < k → Does subscription_store (insert f x) s s (Err TooDeep)
 too_deep s f x fine e h =
     record {
       does = λ (st : SubscriptionStore s).
           insert_refused s st f x fine TooDeep (deep_rule f (room_rules (room_at s) (is_held (split f, x) (held_in s)) (insert_held (split f, x) (held_in s))) (omega (arith, e)));
     }
 
-pub no_units : (call : Call) (s : List ℕ) {r : Shape} → ShapeOf s r → r ≡ Not → Does subscription_store call s s (Refused NotAStore)
+pub no_units : (call : Call) (s : List ℕ) {r : Option Shape} → ShapeOf s r → r ≡ None → Does subscription_store call s s (Err NotAStore)
 no_units call s h e = record { does = λ (st : SubscriptionStore s). absurd (no_units-told values 1 s (forest_at value_of s) (store_holds s st) h e) }
 
 -- what is held has at most 128 levels
@@ -66,7 +64,7 @@ not_deep s st p h true e =
     absurd (omega (arith, d.depth))
 not_deep s st p h false e = refl
 
-pub deep_absent : (s f : List ℕ) (x : ℕ) → checked (filter_rules f) ≡ Accepted → {k : ℕ} → k ≡ length (split f) → 128 < k → Does subscription_store (remove f x) s s (Done 0)
+pub deep_absent : (s f : List ℕ) (x : ℕ) → checked (filter_rules f) ≡ Ok tt → {k : ℕ} → k ≡ length (split f) → 128 < k → Does subscription_store (remove f x) s s (Ok 0)
 deep_absent s f x fine e h =
     record {
       does = λ (st : SubscriptionStore s).
@@ -74,8 +72,8 @@ deep_absent s f x fine e h =
     }
 
 -- a filter of which a node is missing is not held
-pub missing_absent : (s : List ℕ) {base n room : ℕ} → UnitsOf s base n room → (f : List ℕ) → checked (filter_rules f) ≡ Accepted → length (split f) ≤ 128 → {p : Path} → PathFound base s n f p → p.from ≤ length f
-    → (x : ℕ) → Does subscription_store (remove f x) s s (Done 0)
+pub missing_absent : (s : List ℕ) {base n room : ℕ} → UnitsOf s base n room → (f : List ℕ) → checked (filter_rules f) ≡ Ok tt → length (split f) ≤ 128 → {p : Path} → PathFound base s n f p → p.from ≤ length f
+    → (x : ℕ) → Does subscription_store (remove f x) s s (Ok 0)
 missing_absent s {base} {n} units f fine few {p} pf q x =
     record {
       does = λ (st : SubscriptionStore s).

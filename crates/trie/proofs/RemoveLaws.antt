@@ -1,4 +1,6 @@
 -- Removing a value: what each answer rests on. Assumes nothing.
+use Rattle.std.specs.Prelude.{Err, Ok, Result}
+use Rattle.refusal.specs.declared.Refusal.{Refusal}
 use mathlib.Core.Path.{◌≡◌, refl, sym, ap, ◌∙◌}
 use mathlib.Core.Bool.{Bool, true, false, not, true≢false}
 use mathlib.Core.List.{List, [], ◌∷◌, ◌++◌}
@@ -11,7 +13,6 @@ use Rattle.refusal.specs.declared.Refusal.TheVariants.{NotAStore}
 use Rattle.level.specs.Levels.{split}
 use Rattle.topic.specs.Rules.{filter_rules}
 use Rattle.topic.specs.Answers.{checked}
-use Rattle.topic.specs.declared.Checked.TheVariants.{Accepted}
 use Rattle.held.specs.Order.{Filter, same_pair}
 use Rattle.held.specs.Ascending.{member}
 use Rattle.held.specs.Subscriptions.{is_held, remove_held, remove}
@@ -32,8 +33,6 @@ use Rattle.seek.specs.PathFound.{PathFound}
 use Rattle.change.specs.Ways.{ahead}
 use Rattle.change.proofs.EditLaws.{Becomes}
 use Rattle.change.proofs.StoreLaws.{store_holds}
-use Rattle.edit.specs.declared.Changed.{Changed}
-use Rattle.edit.specs.declared.Changed.TheVariants.{Done, Refused}
 use Rattle.edit.specs.Calls.{Step, Does}
 use Rattle.edit.specs.Taking.{alone_in, PathTaken, OneLess}
 use Rattle.edit.proofs.KnownPath.{own_is, node_is}
@@ -56,7 +55,7 @@ without_one : (x : ℕ) → without_value x (x ∷ []) ≡ []
 without_one x = rw (eq-eqb x x refl)
 
 -- what is held after a removal fits
-module _ (s : List ℕ) (st : SubscriptionStore s) (f : List ℕ) (fine : checked (filter_rules f) ≡ Accepted) (x : ℕ) where
+module _ (s : List ℕ) (st : SubscriptionStore s) (f : List ℕ) (fine : checked (filter_rules f) ≡ Ok tt) (x : ℕ) where
   removed_full : Full (cut_f (without_value x) (split f) (forest_at value_of s))
   unfolding remove_f
   removed_full = (remove_text f (ap accepted fine) x (forest_at value_of s) st.well).1.full
@@ -68,7 +67,7 @@ module _ (s : List ℕ) (st : SubscriptionStore s) (f : List ℕ) (fine : checke
       cut-within values 1 s (forest_at value_of s) (store_holds s st) (without_value x) (split f) removed_full
       (omega (arith, ap length i.0, length-keep (λ (q : Filter × ℕ). not (same_pair (split f, x) q)) (held_in s)))
 
-module _ (s : List ℕ) {base n room : ℕ} (units : UnitsOf s base n room) (f : List ℕ) (fine : checked (filter_rules f) ≡ Accepted) (few : length (split f) ≤ 128) {p : Path} (pf : PathFound base s n f p)
+module _ (s : List ℕ) {base n room : ℕ} (units : UnitsOf s base n room) (f : List ℕ) (fine : checked (filter_rules f) ≡ Ok tt) (few : length (split f) ≤ 128) {p : Path} (pf : PathFound base s n f p)
     (q : length f < p.from) (full : length p.nodes ≡ 128) (x : ℕ) {node : ℕ} (at : node ≡ get_or p.nodes (p.depth - 1) 0) {slot : Slot} (e : slot ≡ slot_in base s n node x) where
   stored : (st : SubscriptionStore s) → slot ≡ slot_at (ahead (here s units f few pf q full st).way + level_units (here s units f few pf q full st).level) (spot_from 0 x (here s units f few pf q full st).own)
   stored st = e ∙ slot-stored s units f few pf q full st x at
@@ -79,10 +78,10 @@ module _ (s : List ℕ) {base n room : ℕ} (units : UnitsOf s base n room) (f :
   own_held : (st : SubscriptionStore s) → values_at (split f) (hit [] (forest_at value_of s)) ≡ (here s units f few pf q full st).own
   own_held st = own_is values 1 s units (forest_at value_of s) (store_holds s st) f few pf q
 
-  pub gone_broken : not slot.sound ≡ true → Does subscription_store (remove f x) s s (Refused NotAStore)
+  pub gone_broken : not slot.sound ≡ true → Does subscription_store (remove f x) s s (Err NotAStore)
   gone_broken h = record { does = λ (st : SubscriptionStore s). absurd (true≢false (sym h ∙ ap (λ (a : Slot). not a.sound) (stored st))) }
 
-  pub gone_absent : not slot.held ≡ true → Does subscription_store (remove f x) s s (Done 0)
+  pub gone_absent : not slot.held ≡ true → Does subscription_store (remove f x) s s (Ok 0)
   gone_absent h =
       record {
         does = λ (st : SubscriptionStore s).
@@ -102,18 +101,18 @@ module _ (s : List ℕ) {base n room : ℕ} (units : UnitsOf s base n room) (f :
       is-held : is_held (split f, x) (held_in s) ≡ true
       is-held = held_is s st f x ∙ ap (member eqb x) (own_held st) ∙ among.present
 
-      done : (t : List ℕ) → Becomes values 1 s t (cut_f (without_value x) (split f) F) → Step subscription_store (remove f x) s t (Done 1)
+      done : (t : List ℕ) → Becomes values 1 s t (cut_f (without_value x) (split f) F) → Step subscription_store (remove f x) s t (Ok 1)
       unfolding remove_f
       done t c = remove_done s st f x fine is-held t c
 
       -- the only value, of a node without children
-      path_step : b ≡ true → {t : List ℕ} {r : Changed} → PathTaken s base n p.nodes p.depth f 1 t r → Step subscription_store (remove f x) s t r
+      path_step : b ≡ true → {t : List ℕ} {r : Result ℕ Refusal} → PathTaken s base n p.nodes p.depth f 1 t r → Step subscription_store (remove f x) s t r
       path_step z {t} {r} a =
           let c = alone_own values 1 s units F (store_holds s st) f few pf full q at (sym eb ∙ z) in
           let o = one_of among.before among.after x (sym (ap length among.all) ∙ c.0) in
           let one : (here s units f few pf q full st).own ≡ x ∷ [] = among.all ∙ rw (o.0, o.1) in
           path-gone values 1 s units F (store_holds s st) f few pf full q (without_value x) (removed_full s st f fine x) (removed-within s st f fine x) x one c.1 (without_one x)
-          (λ (t : List ℕ) (r : Changed). Step subscription_store (remove f x) s t r) done a
+          (λ (t : List ℕ) (r : Result ℕ Refusal). Step subscription_store (remove f x) s t r) done a
 
       -- one of several, or of a node with children
       others : b ≡ false → among.before ++ among.after ≡ [] → (here s units f few pf q full st).kids ≡ leaf → ⊥
@@ -121,14 +120,14 @@ module _ (s : List ℕ) {base n room : ℕ} (units : UnitsOf s base n room) (f :
           let c : length (here s units f few pf q full st).own ≡ 1 = omega (arith, ap length among.all, length-append among.before (x ∷ among.after), ap length u, length-append among.before among.after) in
           not_alone values 1 s units F (store_holds s st) f few pf full q at (sym eb ∙ z) c v
 
-      unit_step : b ≡ false → {t : List ℕ} {r : Changed} → OneLess s base n (take (p.depth - 1) p.nodes) node slot.at 1 t r → Step subscription_store (remove f x) s t r
+      unit_step : b ≡ false → {t : List ℕ} {r : Result ℕ Refusal} → OneLess s base n (take (p.depth - 1) p.nodes) node slot.at 1 t r → Step subscription_store (remove f x) s t r
       unit_step z a =
           let w : slot.at ≡ ahead (here s units f few pf q full st).way + level_units (here s units f few pf q full st).level + length among.before = omega (arith, ap (λ (c : Slot). c.at) (stored st), among.count) in
           unit-gone values 1 s units F (store_holds s st) f few pf full q (without_value x) (removed_full s st f fine x) (removed-within s st f fine x) x among.before among.after among.all among.without (others z)
-          (λ (t : List ℕ) (r : Changed). Step subscription_store (remove f x) s t r) done (at ∙ node_is values 1 s units F (store_holds s st) f few pf q full) w a
+          (λ (t : List ℕ) (r : Result ℕ Refusal). Step subscription_store (remove f x) s t r) done (at ∙ node_is values 1 s units F (store_holds s st) f few pf q full) w a
 
-    pub gone_path : b ≡ true → {t : List ℕ} {r : Changed} → PathTaken s base n p.nodes p.depth f 1 t r → Does subscription_store (remove f x) s t r
+    pub gone_path : b ≡ true → {t : List ℕ} {r : Result ℕ Refusal} → PathTaken s base n p.nodes p.depth f 1 t r → Does subscription_store (remove f x) s t r
     gone_path z a = record { does = λ (st : SubscriptionStore s). path_step st z a }
 
-    pub gone_unit : b ≡ false → {t : List ℕ} {r : Changed} → OneLess s base n (take (p.depth - 1) p.nodes) node slot.at 1 t r → Does subscription_store (remove f x) s t r
+    pub gone_unit : b ≡ false → {t : List ℕ} {r : Result ℕ Refusal} → OneLess s base n (take (p.depth - 1) p.nodes) node slot.at 1 t r → Does subscription_store (remove f x) s t r
     gone_unit z a = record { does = λ (st : SubscriptionStore s). unit_step st z a }

@@ -1,4 +1,5 @@
 -- What shows that inserting and removing did what they should. Assumes nothing.
+use Rattle.std.specs.Prelude.{Err, Ok, Result, ⊤}
 use mathlib.Core.Path.{◌≡◌, refl, sym, ap, ◌∙◌}
 use mathlib.Core.Bool.{Bool, true, false, not, ◌&&◌, ◌||◌}
 use mathlib.Core.List.{List, [], ◌∷◌}
@@ -9,8 +10,6 @@ use Rattle.refusal.specs.declared.Refusal.{Refusal}
 use Rattle.level.specs.Levels.{split}
 use Rattle.topic.specs.Rules.{Rule, filter_rules}
 use Rattle.topic.specs.Answers.{checked}
-use Rattle.topic.specs.declared.Checked.{Checked}
-use Rattle.topic.specs.declared.Checked.TheVariants.{Accepted, Refused as NotAccepted}
 use Rattle.held.specs.Order.{Filter, same_pair, pair_lt}
 use Rattle.held.specs.Ascending.{All}
 use Rattle.held.specs.Room.{room_rules, depth_rule}
@@ -29,7 +28,6 @@ use Rattle.region.specs.Store.{room_at, forest_at, Accepts, SubscriptionStore}
 use Rattle.region.proofs.Instances.{values}
 use Rattle.change.proofs.EditLaws.{Becomes}
 use Rattle.change.proofs.StoreLaws.{holds_store}
-use Rattle.edit.specs.declared.Changed.TheVariants.{Done, Refused}
 use Rattle.edit.specs.Calls.{Step, Does}
 use Rattle.edit.proofs.StepLaws.{refused_step, same_step, changed_step, text_refused}
 use Rattle.trie.specs.Calls.{held_in, subscription_store}
@@ -45,22 +43,22 @@ absent p q h e false z = refl
 
 module _ (s : List ℕ) (st : SubscriptionStore s) where
   -- another forest is held
-  becomes_step : (call : Call) (n : ℕ) (F : Forest ℕ) (t : List ℕ) → verdict (subscriptions (room_at s) call (held_in s)) ≡ Accepted → (subscriptions (room_at s) call (held_in s)).answer ≡ n
+  becomes_step : (call : Call) (n : ℕ) (F : Forest ℕ) (t : List ℕ) → verdict (subscriptions (room_at s) call (held_in s)) ≡ Ok tt → (subscriptions (room_at s) call (held_in s)).answer ≡ n
       → held F ≡ (subscriptions (room_at s) call (held_in s)).after → WellFormed F → All (λ (e : Filter × ℕ). Accepts filter_rules e.0) (held F) → Becomes values 1 s t F
-      → Step subscription_store call s t (Done n)
+      → Step subscription_store call s t (Ok n)
   becomes_step call n F t v a h w ts b =
       let q = holds_store t F b.holds w ts in
       changed_step subscription_store s call values 1 F t n v a b q.0 (ap held q.1 ∙ h)
 
   -- inserting
-  module _ (f : List ℕ) (x : ℕ) (fine : checked (filter_rules f) ≡ Accepted) where
+  module _ (f : List ℕ) (x : ℕ) (fine : checked (filter_rules f) ≡ Ok tt) where
     abbrev rooms : List Rule
     rooms = depth_rule f ∷ room_rules (room_at s) (is_held (split f, x) (held_in s)) (insert_held (split f, x) (held_in s))
 
     insert-verdict : verdict (subscriptions (room_at s) (insert f x) (held_in s)) ≡ checked rooms
     insert-verdict = text-passed (subscriptions (room_at s) (insert f x) (held_in s)) (filter_rules f) rooms refl fine
 
-    pub insert_refused : (r : Refusal) → checked rooms ≡ NotAccepted r → Step subscription_store (insert f x) s s (Refused r)
+    pub insert_refused : (r : Refusal) → checked rooms ≡ Err r → Step subscription_store (insert f x) s s (Err r)
     insert_refused r e = refused_step subscription_store s (insert f x) st r (insert-verdict ∙ e)
 
     same_again : is_held (split f, x) (held_in s) ≡ true → insert_held (split f, x) (held_in s) ≡ held_in s
@@ -69,13 +67,13 @@ module _ (s : List ℕ) (st : SubscriptionStore s) where
         pairs_settled (insert_held (split f, x) (held_in s)) (held_in s) (pairs_insert (split f, x) (held_in s) a) a
         (λ (p : Pair). held_insert p (split f, x) (held_in s) ∙ already p (split f, x) (held_in s) e (same_pair p (split f, x)) refl)
 
-    pub insert_there : length (split f) ≤ 128 → is_held (split f, x) (held_in s) ≡ true → Step subscription_store (insert f x) s s (Done 0)
+    pub insert_there : length (split f) ≤ 128 → is_held (split f, x) (held_in s) ≡ true → Step subscription_store (insert f x) s s (Ok 0)
     unfolding depth_rule
     insert_there d e =
         same_step subscription_store s (insert f x) st 0 (insert-verdict ∙ rw (e, le-ltb 128 (length (split f)) d, held-accepted (room_at s) (insert_held (split f, x) (held_in s)))) (rw e) (same_again e)
 
-    pub insert_new : length (split f) ≤ 128 → is_held (split f, x) (held_in s) ≡ false → checked rooms ≡ Accepted
-        → (t : List ℕ) → Becomes values 1 s t (insert_f (split f) x (forest_at value_of s)) → Step subscription_store (insert f x) s t (Done 1)
+    pub insert_new : length (split f) ≤ 128 → is_held (split f, x) (held_in s) ≡ false → checked rooms ≡ Ok tt
+        → (t : List ℕ) → Becomes values 1 s t (insert_f (split f) x (forest_at value_of s)) → Step subscription_store (insert f x) s t (Ok 1)
     unfolding insert_held
     insert_new d e v t b =
         let i = insert_text f (ap accepted fine) x (forest_at value_of s) st.well in
@@ -83,11 +81,11 @@ module _ (s : List ℕ) (st : SubscriptionStore s) where
         (rw i.0 (all-put (λ (p : Pair). Accepts filter_rules p.0) pair_lt (λ (q : Pair). q) (split f, x) (held_in s) (record { text = f; levels = refl; fine = fine; depth = d }) st.texts)) b
 
   -- removing
-  module _ (f : List ℕ) (x : ℕ) (fine : checked (filter_rules f) ≡ Accepted) where
-    remove-verdict : verdict (subscriptions (room_at s) (remove f x) (held_in s)) ≡ Accepted
+  module _ (f : List ℕ) (x : ℕ) (fine : checked (filter_rules f) ≡ Ok tt) where
+    remove-verdict : verdict (subscriptions (room_at s) (remove f x) (held_in s)) ≡ Ok tt
     remove-verdict = text-passed (subscriptions (room_at s) (remove f x) (held_in s)) (filter_rules f) [] refl fine
 
-    pub remove-none : is_held (split f, x) (held_in s) ≡ false → Step subscription_store (remove f x) s s (Done 0)
+    pub remove-none : is_held (split f, x) (held_in s) ≡ false → Step subscription_store (remove f x) s s (Ok 0)
     remove-none e =
         let a = well_pairs (forest_at value_of s) st.well in
         let k : remove_held (split f, x) (held_in s) ≡ held_in s =
@@ -95,7 +93,7 @@ module _ (s : List ℕ) (st : SubscriptionStore s) where
         (λ (p : Pair). held_remove p (split f, x) (held_in s) ∙ absent p (split f, x) (held_in s) e (same_pair (split f, x) p) refl) in
         same_step subscription_store s (remove f x) st 0 remove-verdict (rw e) k
 
-    pub remove_done : is_held (split f, x) (held_in s) ≡ true → (t : List ℕ) → Becomes values 1 s t (remove_f (split f) x (forest_at value_of s)) → Step subscription_store (remove f x) s t (Done 1)
+    pub remove_done : is_held (split f, x) (held_in s) ≡ true → (t : List ℕ) → Becomes values 1 s t (remove_f (split f) x (forest_at value_of s)) → Step subscription_store (remove f x) s t (Ok 1)
     unfolding remove_held
     remove_done e t b =
         let i = remove_text f (ap accepted fine) x (forest_at value_of s) st.well in
@@ -103,10 +101,10 @@ module _ (s : List ℕ) (st : SubscriptionStore s) where
         (rw i.0 (all_keep (λ (p : Pair). Accepts filter_rules p.0) (λ (q : Pair). not (same_pair (split f, x) q)) (held_in s) st.texts)) b
 
 -- a filter that is refused, whatever the region holds
-module _ (f : List ℕ) (x : ℕ) (s : List ℕ) {k : Checked} {r : Refusal} (q : k ≡ checked (filter_rules f)) (z : k ≡ NotAccepted r) where
-  pub insert_text_refused : Does subscription_store (insert f x) s s (Refused r)
+module _ (f : List ℕ) (x : ℕ) (s : List ℕ) {k : Result ⊤ Refusal} {r : Refusal} (q : k ≡ checked (filter_rules f)) (z : k ≡ Err r) where
+  pub insert_text_refused : Does subscription_store (insert f x) s s (Err r)
   insert_text_refused =
       text_refused subscription_store s (insert f x) (filter_rules f) (depth_rule f ∷ room_rules (room_at s) (is_held (split f, x) (held_in s)) (insert_held (split f, x) (held_in s))) refl q z
 
-  pub remove_text_refused : Does subscription_store (remove f x) s s (Refused r)
+  pub remove_text_refused : Does subscription_store (remove f x) s s (Err r)
   remove_text_refused = text_refused subscription_store s (remove f x) (filter_rules f) [] refl q z

@@ -1,4 +1,5 @@
 -- A store of subscriptions, and the path of a filter in it. Assumes nothing.
+use Rattle.std.specs.Prelude.{Ok}
 use mathlib.Core.Path.{◌≡◌, ap, ◌∙◌}
 use mathlib.Core.Bool.{false}
 use mathlib.Core.List.{List, [], ◌∷◌}
@@ -11,7 +12,6 @@ use Rattle.level.specs.Places.{first}
 use Rattle.level.proofs.Split.{split_cons, after}
 use Rattle.topic.specs.Rules.{filter_rules}
 use Rattle.topic.specs.Answers.{checked}
-use Rattle.topic.specs.declared.Checked.TheVariants.{Accepted}
 use Rattle.held.specs.Ascending.{member}
 use Rattle.held.specs.Room.{level_cells, full_rules, room_rules, depth_rule}
 use Rattle.held.specs.Subscriptions.{is_held, insert_held}
@@ -42,7 +42,7 @@ module _ (s : List ℕ) (st : SubscriptionStore s) (f : List ℕ) where
   pub held_is : (x : ℕ) → is_held (split f, x) (held_in s) ≡ member eqb x (values_at (split f) (hit [] F))
   held_is x = held_at F st.well.rows (split f) x
 
-  module _ {base n room : ℕ} (units : UnitsOf s base n room) (fine : checked (filter_rules f) ≡ Accepted) (few : length (split f) ≤ 128) (x : ℕ) (e : member eqb x (values_at (split f) (hit [] F)) ≡ false) where
+  module _ {base n room : ℕ} (units : UnitsOf s base n room) (fine : checked (filter_rules f) ≡ Ok tt) (few : length (split f) ≤ 128) (x : ℕ) (e : member eqb x (values_at (split f) (hit [] F)) ≡ false) where
     -- the rules for room, in the words of the forest
     full-rules : room_rules (room_at s) (is_held (split f, x) (held_in s)) (insert_held (split f, x) (held_in s))
         ≡ full_rules (room_at s) (member eqb x (values_at (split f) (hit [] F))) (size_f F + weigh (λ t. 1) (missing (split f) F)) (suc (length (held F))) (cells_f F + weigh level_cells (missing (split f) F))
@@ -63,7 +63,7 @@ module _ (s : List ℕ) (st : SubscriptionStore s) (f : List ℕ) where
     rooms_are = depth-first f few (room_rules (room_at s) (is_held (split f, x) (held_in s)) (insert_held (split f, x) (held_in s))) ∙ only_rooms
 
     -- what is then held fits, and so do its units
-    module _ (q : fitting s (length (missing (split f) F)) (weigh level_cells (missing (split f) F)) ≡ Accepted) where
+    module _ (q : fitting s (length (missing (split f) F)) (weigh level_cells (missing (split f) F)) ≡ Ok tt) where
       pub inserted-within : Within (room_at s) (held (insert_f (split f) x F))
       inserted-within =
           let i = insert_text f (ap accepted fine) x F st.well in

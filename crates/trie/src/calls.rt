@@ -7,49 +7,41 @@ ghost use Rattle.edit.specs.Calls.{Calls, Does};
 ghost use Rattle.trie.specs.Calls.{subscription_store};
 
 use crate::{inserting, removing};
-use edit::Changed;
 use refusal::Refusal;
 use region::Kind;
-use topic::Checked;
 
 // Puts a value at a filter: 1 if it is new there, 0 if it was held already.
-pub fn insert(region: &mut [u8], filter: &[u8], value: u32) -> Changed
+pub fn insert(region: &mut [u8], filter: &[u8], value: u32) -> Result<u64, Refusal>
     ensures { Calls subscription_store (insert filter.now value) region.old region.new result }
 {
     if !audit::is_store(region, Kind::Subscriptions) {
-        return Changed::Refused(Refusal::NotAStore);
+        return Err(Refusal::NotAStore);
     }
     insert_known(region, filter, value)
 }
 
 // The same without the test of the region.
-pub fn insert_known(region: &mut [u8], filter: &[u8], value: u32) -> Changed
+pub fn insert_known(region: &mut [u8], filter: &[u8], value: u32) -> Result<u64, Refusal>
     ensures { Does subscription_store (insert filter.now value) region.old region.new result }
 {
-    let text = topic::is_valid_topic_filter(filter);
-    if let Checked::Refused(r) = text {
-        return Changed::Refused(r);
-    }
+    topic::is_valid_topic_filter(filter)?;
     inserting::insert_accepted(region, filter, value)
 }
 
 // Takes a value away from a filter: 1 if it was held, else 0.
-pub fn remove(region: &mut [u8], filter: &[u8], value: u32) -> Changed
+pub fn remove(region: &mut [u8], filter: &[u8], value: u32) -> Result<u64, Refusal>
     ensures { Calls subscription_store (remove filter.now value) region.old region.new result }
 {
     if !audit::is_store(region, Kind::Subscriptions) {
-        return Changed::Refused(Refusal::NotAStore);
+        return Err(Refusal::NotAStore);
     }
     remove_known(region, filter, value)
 }
 
 // The same without the test of the region.
-pub fn remove_known(region: &mut [u8], filter: &[u8], value: u32) -> Changed
+pub fn remove_known(region: &mut [u8], filter: &[u8], value: u32) -> Result<u64, Refusal>
     ensures { Does subscription_store (remove filter.now value) region.old region.new result }
 {
-    let text = topic::is_valid_topic_filter(filter);
-    if let Checked::Refused(r) = text {
-        return Changed::Refused(r);
-    }
+    topic::is_valid_topic_filter(filter)?;
     removing::remove_accepted(region, filter, value)
 }

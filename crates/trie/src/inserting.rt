@@ -1,9 +1,8 @@
 // Inserting a filter that was accepted, with a value.
-ghost use Rattle.std.specs.Prelude.{◌≡◌, ◌≤◌, ◌<◌, length};
+ghost use Rattle.std.specs.Prelude.{◌≡◌, ◌≤◌, ◌<◌, length, Ok};
 ghost use Rattle.level.specs.Levels.{split};
 ghost use Rattle.topic.specs.Rules.{filter_rules};
 ghost use Rattle.topic.specs.Answers.{checked};
-ghost use Rattle.topic.specs.declared.Checked.TheVariants.{Accepted};
 ghost use Rattle.region.specs.Shapes.{UnitsOf};
 ghost use Rattle.seek.specs.PathFound.{PathFound};
 ghost use Rattle.held.specs.Subscriptions.{insert};
@@ -11,7 +10,6 @@ ghost use Rattle.edit.specs.Calls.{Does};
 ghost use Rattle.trie.specs.Calls.{subscription_store};
 
 use crate::{slots, values};
-use edit::Changed;
 use refusal::Refusal;
 use region::Shape;
 use seek::Path;
@@ -25,8 +23,8 @@ fn insert_value(
     p: Path,
     filter: &[u8],
     value: u32,
-) -> Changed
-    requires { UnitsOf s.old base n room × (checked (filter_rules filter.now) ≡ Accepted) × (length (split filter.now) ≤ 128) × PathFound base s.old n filter.now p × (length filter.now < p.from) }
+) -> Result<u64, Refusal>
+    requires { UnitsOf s.old base n room × (checked (filter_rules filter.now) ≡ Ok tt) × (length (split filter.now) ≤ 128) × PathFound base s.old n filter.now p × (length filter.now < p.from) }
     ensures { Does subscription_store (insert filter.now value) s.old s.new result }
 {
     let nodes = p.nodes;
@@ -34,18 +32,25 @@ fn insert_value(
     let node = nodes[last];
     let slot = slots::slot_of(s, base, n, node, value);
     if !slot.sound {
-        return Changed::Refused(Refusal::NotAStore);
+        return Err(Refusal::NotAStore);
     }
     if slot.held {
-        return Changed::Done(0);
+        return Ok(0);
     }
     let unit = values::unit_of(value);
     edit::add_unit(s, base, n, room, nodes, last, node, slot.at, &unit)
 }
 
 // A value for a filter of at most 128 levels.
-fn insert_in(s: &mut [u8], base: usize, n: usize, room: usize, filter: &[u8], value: u32) -> Changed
-    requires { UnitsOf s.old base n room × (checked (filter_rules filter.now) ≡ Accepted) × (length (split filter.now) ≤ 128) }
+fn insert_in(
+    s: &mut [u8],
+    base: usize,
+    n: usize,
+    room: usize,
+    filter: &[u8],
+    value: u32,
+) -> Result<u64, Refusal>
+    requires { UnitsOf s.old base n room × (checked (filter_rules filter.now) ≡ Ok tt) × (length (split filter.now) ≤ 128) }
     ensures { Does subscription_store (insert filter.now value) s.old s.new result }
 {
     let p = seek::find_path(s, base, n, filter);
@@ -57,16 +62,15 @@ fn insert_in(s: &mut [u8], base: usize, n: usize, room: usize, filter: &[u8], va
 }
 
 // Into a region that is a store.
-pub fn insert_accepted(s: &mut [u8], filter: &[u8], value: u32) -> Changed
-    requires { checked (filter_rules filter.now) ≡ Accepted }
+pub fn insert_accepted(s: &mut [u8], filter: &[u8], value: u32) -> Result<u64, Refusal>
+    requires { checked (filter_rules filter.now) ≡ Ok tt }
     ensures { Does subscription_store (insert filter.now value) s.old s.new result }
 {
     if 128 < level::level_count(filter) {
-        return Changed::Refused(Refusal::TooDeep);
+        return Err(Refusal::TooDeep);
     }
-    let shape = region::shape_of(s);
-    let Shape::Units { base, used, room } = shape else {
-        return Changed::Refused(Refusal::NotAStore);
+    let Some(Shape { base, used, room }) = region::shape_of(s) else {
+        return Err(Refusal::NotAStore);
     };
     insert_in(s, base, used, room, filter, value)
 }

@@ -11,23 +11,7 @@ mod values;
 
 pub use asking::{is_match, is_match_known, matches, matches_known};
 pub use calls::{insert, insert_known, remove, remove_known};
-use refusal::Refusal;
-use region::{Nodes, Pairs};
 pub use sizes::{nodes_size, values_size};
-
-// The nodes that a store has, or why there are none to tell.
-#[derive(Clone, Copy)]
-pub enum NodesSize {
-    Held(Nodes),
-    Refused(Refusal),
-}
-
-// The pairs that a store holds, or why there are none to tell.
-#[derive(Clone, Copy)]
-pub enum ValuesSize {
-    Held(Pairs),
-    Refused(Refusal),
-}
 
 // Where a value is among those that a node holds, if it is held; else where it would go.
 #[derive(Clone, Copy)]

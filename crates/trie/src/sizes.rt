@@ -6,24 +6,23 @@ ghost use Rattle.edit.specs.Counts.{Counts};
 ghost use Rattle.trie.specs.Calls.{held_in};
 ghost use Rattle.trie.specs.Sizes.{nodes_told, values_told};
 
-use crate::{NodesSize, ValuesSize};
 use refusal::Refusal;
-use region::Kind;
+use region::{Kind, Nodes, Pairs};
 
-pub fn nodes_size(region: &[u8]) -> NodesSize
+pub fn nodes_size(region: &[u8]) -> Result<Nodes, Refusal>
     ensures { Counts (SubscriptionStore region.now) (node_count (held_in region.now)) (nodes_told result) }
 {
     if !audit::is_store(region, Kind::Subscriptions) {
-        return NodesSize::Refused(Refusal::NotAStore);
+        return Err(Refusal::NotAStore);
     }
-    NodesSize::Held(region::nodes_size(region))
+    Ok(region::nodes_size(region))
 }
 
-pub fn values_size(region: &[u8]) -> ValuesSize
+pub fn values_size(region: &[u8]) -> Result<Pairs, Refusal>
     ensures { Counts (SubscriptionStore region.now) (length (held_in region.now)) (values_told result) }
 {
     if !audit::is_store(region, Kind::Subscriptions) {
-        return ValuesSize::Refused(Refusal::NotAStore);
+        return Err(Refusal::NotAStore);
     }
-    ValuesSize::Held(region::values_size(region))
+    Ok(region::values_size(region))
 }

@@ -1,4 +1,6 @@
 -- Whether a walk would give a record: what each turn answers. Assumes nothing.
+use Rattle.std.specs.Prelude.{Some}
+use Rattle.std.specs.Prelude.{None, Option}
 use mathlib.Core.Path.{◌≡◌, refl, sym, ◌∙◌}
 use mathlib.Core.Bool.{Bool, true, false, ◌||◌}
 use mathlib.Core.List.{List, [], ◌∷◌}
@@ -16,8 +18,7 @@ use Rattle.held.specs.Walks.{miss, hit, hash, plus, kid}
 use Rattle.held.specs.Stream.{some_of, hash_hit, walk_hit, list_hit}
 use Rattle.walk.specs.declared.Start.{Start}
 use Rattle.walk.specs.declared.Node.{Node}
-use Rattle.walk.specs.declared.Node.TheVariants.{At, Nothing}
-use Rattle.walk.specs.Nodes.{Kid, Listed, values_in}
+use Rattle.walk.specs.Nodes.{node_at, Kid, Listed, values_in}
 use Rattle.walk.specs.Steps.{NextLevel}
 use Rattle.walk.specs.Starts.{Started}
 use Rattle.walk.specs.Hits.{Hits, HashHits}
@@ -42,36 +43,36 @@ some-of : (v e : ℕ) (own : List ℕ) → e ≡ v + length own → ltb v e ≡ 
 some-of v e [] h = le-ltb v e (omega (arith, h))
 some-of v e (x ∷ own) h = lt-ltb v e (omega (arith, h))
 
-pub values_some : (v e p : ℕ) {n : Node} → n ≡ At v e p → HashHits n (ltb v e)
-values_some v e p {n} is =
+pub values_some : (nd : Node) {n : Option Node} → n ≡ Some nd → HashHits n (ltb nd.values nd.end)
+values_some nd {n} is =
     record {
-      is = λ base s d h i. let o = opened base s d v e p n h is i in rw o.is (some-of v e o.own o.holds.count);
+      is = λ base s d h i. let o = opened base s d nd n h is i in rw o.is (some-of nd.values nd.end o.own o.holds.count);
     }
 
-pub values-none : {n : Node} → n ≡ Nothing → HashHits n false
+pub values-none : {n : Option Node} → n ≡ None → HashHits n false
 values-none {n} is = record { is = λ base s d h i. rw (missed base s d n h is i) }
 
-pub no_node : (base : ℕ) (s : List ℕ) (d : ℕ) (ns : Filter) {n : Node} → n ≡ Nothing → Hits base s d n ns false
+pub no_node : (base : ℕ) (s : List ℕ) (d : ℕ) (ns : Filter) {n : Option Node} → n ≡ None → Hits base s d n ns false
 no_node base s d ns {n} is = record { is = λ h i. rw (missed base s d n h is i) (sym (hit_miss ns)) }
 
-module _ (base : ℕ) (s : List ℕ) (d : ℕ) (name : List ℕ) (from v e p : ℕ) {n all : Node} (is : n ≡ At v e p) (k : Kid base s d e p hash all) where
+module _ (base : ℕ) (s : List ℕ) (d : ℕ) (name : List ℕ) (from : ℕ) (nd : Node) {n all : Option Node} (is : n ≡ Some nd) (k : Kid base s d nd.end nd.past hash all) where
   -- the name ends
   module _ (end : length name < from) where
-    pub own_hits : v < e → Hits base s d n (levels_at name from) true
+    pub own_hits : nd.values < nd.end → Hits base s d n (levels_at name from) true
     own_hits l =
         record {
           is = λ h i.
-              let o = opened base s d v e p n h is i in
-              rw (levels-none name from end, o.is, hit_end, ← some-of v e o.own o.holds.count, lt-ltb v e l);
+              let o = opened base s d nd n h is i in
+              rw (levels-none name from end, o.is, hit_end, ← some-of nd.values nd.end o.own o.holds.count, lt-ltb nd.values nd.end l);
         }
 
-    pub end_hits : e ≤ v → {r : Bool} → HashHits all r → Hits base s d n (levels_at name from) r
+    pub end_hits : nd.end ≤ nd.values → {r : Bool} → HashHits all r → Hits base s d n (levels_at name from) r
     end_hits l {r} a =
         record {
           is = λ h i.
-              let o = opened base s d v e p n h is i in
-              rw (levels-none name from end, o.is, hit_end, ← some-of v e o.own o.holds.count, le-ltb v e l)
-              (a.is base s (d + 1) (kid hash o.kids) (kid_of base s d v e p h o hash all k));
+              let o = opened base s d nd n h is i in
+              rw (levels-none name from end, o.is, hit_end, ← some-of nd.values nd.end o.own o.holds.count, le-ltb nd.values nd.end l)
+              (a.is base s (d + 1) (kid hash o.kids) (kid_of base s d nd.values nd.end nd.past h o hash all k));
         }
 
   -- it goes on
@@ -80,45 +81,45 @@ module _ (base : ℕ) (s : List ℕ) (d : ℕ) (name : List ℕ) (from v e p : �
     hash_hits t =
         record {
           is = λ h i.
-              let o = opened base s d v e p n h is i in
-              rw (levels_cons name from some, o.is, hit-on, ← q.is base s (d + 1) (kid hash o.kids) (kid_of base s d v e p h o hash all k), t);
+              let o = opened base s d nd n h is i in
+              rw (levels_cons name from some, o.is, hit-on, ← q.is base s (d + 1) (kid hash o.kids) (kid_of base s d nd.values nd.end nd.past h o hash all k), t);
         }
 
     -- past the '#'
-    module _ (none : a ≡ false) (stop : ℕ) (next : NextLevel name from stop) {any : Node} (w : Kid base s d e p plus any) {b : Bool} (r : Hits base s (d + 1) any (levels_at name (stop + 1)) b) where
+    module _ (none : a ≡ false) (stop : ℕ) (next : NextLevel name from stop) {any : Option Node} (w : Kid base s d nd.end nd.past plus any) {b : Bool} (r : Hits base s (d + 1) any (levels_at name (stop + 1)) b) where
       pub plus_hits : b ≡ true → Hits base s d n (levels_at name from) true
       plus_hits t =
           record {
             is = λ h i.
-                let o = opened base s d v e p n h is i in
+                let o = opened base s d nd n h is i in
                 rw (
                   next.levels,
                   o.is,
                   hit-on,
-                  ← q.is base s (d + 1) (kid hash o.kids) (kid_of base s d v e p h o hash all k),
+                  ← q.is base s (d + 1) (kid hash o.kids) (kid_of base s d nd.values nd.end nd.past h o hash all k),
                   none,
-                  ← r.is (kid plus o.kids) (kid_of base s d v e p h o plus any w),
+                  ← r.is (kid plus o.kids) (kid_of base s d nd.values nd.end nd.past h o plus any w),
                   t,
                 );
           }
 
-      pub level_hits : b ≡ false → {one : Node} → Kid base s d e p (take (stop - from) (drop from name)) one → {z : Bool} → Hits base s (d + 1) one (levels_at name (stop + 1)) z
+      pub level_hits : b ≡ false → {one : Option Node} → Kid base s d nd.end nd.past (take (stop - from) (drop from name)) one → {z : Bool} → Hits base s (d + 1) one (levels_at name (stop + 1)) z
           → Hits base s d n (levels_at name from) z
       level_hits t {one} x {z} u =
           record {
             is = λ h i.
-                let o = opened base s d v e p n h is i in
+                let o = opened base s d nd n h is i in
                 let g : Level = take (stop - from) (drop from name) in
                 rw (
                   next.levels,
                   o.is,
                   hit-on,
-                  ← q.is base s (d + 1) (kid hash o.kids) (kid_of base s d v e p h o hash all k),
+                  ← q.is base s (d + 1) (kid hash o.kids) (kid_of base s d nd.values nd.end nd.past h o hash all k),
                   none,
-                  ← r.is (kid plus o.kids) (kid_of base s d v e p h o plus any w),
+                  ← r.is (kid plus o.kids) (kid_of base s d nd.values nd.end nd.past h o plus any w),
                   t,
                 )
-                (u.is (kid g o.kids) (kid_of base s d v e p h o g one x));
+                (u.is (kid g o.kids) (kid_of base s d nd.values nd.end nd.past h o g one x));
           }
 
 -- from the start

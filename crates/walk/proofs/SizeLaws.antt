@@ -1,4 +1,6 @@
 -- What a walk's records take: what each turn adds. Assumes nothing.
+use Rattle.std.specs.Prelude.{Some}
+use Rattle.std.specs.Prelude.{None, Option}
 use mathlib.Core.Path.{◌≡◌, refl, sym, ap, ◌∙◌}
 use mathlib.Core.List.{List, [], ◌∷◌, ◌++◌}
 use Prim.Native.Nat.{ℕ, ◌+◌, ◌-◌, ◌*◌, ◌<◌, min}
@@ -16,8 +18,7 @@ use Rattle.walk.specs.declared.Measured.{Measured}
 use Rattle.walk.specs.declared.Node.{Node}
 use Rattle.walk.specs.declared.Step.{Step}
 use Rattle.walk.specs.declared.Start.{Start}
-use Rattle.walk.specs.declared.Node.TheVariants.{At, Nothing}
-use Rattle.walk.specs.Nodes.{Kid, Listed, values_in}
+use Rattle.walk.specs.Nodes.{node_at, Kid, Listed, values_in}
 use Rattle.walk.specs.Steps.{StepTo}
 use Rattle.walk.specs.Starts.{Started}
 use Rattle.walk.specs.Sizes.{capped, nothing, Sized, record_size, RecordSized, HashSized, Sizes}
@@ -53,16 +54,16 @@ module _ (m : Measured) (v e text n : ℕ) (count : n ≡ min (e - v) 65535) whe
           let q : n ≡ length (x ∷ own) = omega (arith, count, h, f) in
           record { bytes_are = λ l. omega (arith, eb, q, l); records_are = λ l. omega (arith, er, l) }
 
-pub hash_some : (b : Measured) (v e p size : ℕ) {n : Node} {m : Measured} → n ≡ At v e p → RecordSized b v e (size + 1) m → HashSized b n size m
-hash_some b v e p size {n} {m} is r =
+pub hash_some : (b : Measured) (nd : Node) (size : ℕ) {n : Option Node} {m : Measured} → n ≡ Some nd → RecordSized b nd.values nd.end (size + 1) m → HashSized b n size m
+hash_some b nd size {n} {m} is r =
     record {
       is = λ base s d h i f w.
-          let o = opened base s d v e p n h is i in
+          let o = opened base s d nd n h is i in
           let t : length (join (f ++ hash ∷ [])) ≡ size + 1 = length-join_next f hash ∙ ap (λ (x : ℕ). x + 1) w in
           rw (o.is, length_record (f ++ hash ∷ []) o.own, t) (r.is o.own o.holds.few o.holds.count);
     }
 
-pub hash-none : (b : Measured) (size : ℕ) {n : Node} → n ≡ Nothing → HashSized b n size b
+pub hash-none : (b : Measured) (size : ℕ) {n : Option Node} → n ≡ None → HashSized b n size b
 hash-none b size {n} is = record { is = λ base s d h i p w. rw (missed base s d n h is i) (sized-none b) }
 
 -- the turns of `walk_count`
@@ -79,34 +80,34 @@ pub count-on : (n : Level) (ns : Filter) (v : List ℕ) (k : Forest ℕ) → wal
 unfolding walk_count
 count-on n ns v k = refl
 
-pub no_sizes : (b : Measured) (base : ℕ) (s : List ℕ) (d size : ℕ) (ns : Filter) {n : Node} → n ≡ Nothing → Sizes b base s d n size ns b
+pub no_sizes : (b : Measured) (base : ℕ) (s : List ℕ) (d size : ℕ) (ns : Filter) {n : Option Node} → n ≡ None → Sizes b base s d n size ns b
 no_sizes b base s d size ns {n} is = record { is = λ h i p w. rw (missed base s d n h is i, walk_miss, count_miss) (sized-none b) }
 
-module _ (before : Measured) (base : ℕ) (s : List ℕ) (d size : ℕ) (name : List ℕ) (from v e p : ℕ) {n all : Node} (is : n ≡ At v e p) (k : Kid base s d e p hash all) where
+module _ (before : Measured) (base : ℕ) (s : List ℕ) (d size : ℕ) (name : List ℕ) (from : ℕ) (nd : Node) {n all : Option Node} (is : n ≡ Some nd) (k : Kid base s d nd.end nd.past hash all) where
   -- the name ends
-  pub sizes_end : length name < from → (t : ℕ) → t ≡ size - 1 → {o m : Measured} → RecordSized before v e t o → HashSized o all size m → Sizes before base s d n size (levels_at name from) m
+  pub sizes_end : length name < from → (t : ℕ) → t ≡ size - 1 → {o m : Measured} → RecordSized before nd.values nd.end t o → HashSized o all size m → Sizes before base s d n size (levels_at name from) m
   sizes_end end t et {o} {m} r q =
       record {
         is = λ h i f w.
-            let c = opened base s d v e p n h is i in
+            let c = opened base s d nd n h is i in
             let z : length (join f) ≡ t = length-join f ∙ rw w (sym et) in
             let y : Sized before (length (record_at f c.own)) (one_of c.own) o = rw (length_record f c.own, z) (r.is c.own c.holds.few c.holds.count) in
             rw (levels-none name from end, c.is, walk_end, count_end, length-append)
-            (sized_both _ _ _ _ before o m y (q.is base s (d + 1) (kid hash c.kids) (kid_of base s d v e p h c hash all k) f w));
+            (sized_both _ _ _ _ before o m y (q.is base s (d + 1) (kid hash c.kids) (kid_of base s d nd.values nd.end nd.past h c hash all k) f w));
       }
 
   -- it goes on
-  pub sizes-on : {a b m : Measured} → HashSized before all size a → (t : Step) → StepTo base s d e p name from t
+  pub sizes-on : {a b m : Measured} → HashSized before all size a → (t : Step) → StepTo base s d nd.end nd.past name from t
       → Sizes a base s (d + 1) t.any (size + 2) (levels_at name (t.stop + 1)) b → Sizes b base s (d + 1) t.own (size + (t.stop - from) + 1) (levels_at name (t.stop + 1)) m
       → Sizes before base s d n size (levels_at name from) m
   sizes-on {a} {b} {m} q t u r x =
       record {
         is = λ h i f z.
-            let o = opened base s d v e p n h is i in
+            let o = opened base s d nd n h is i in
             let g : Level = take (t.stop - from) (drop from name) in
-            let y1 = q.is base s (d + 1) (kid hash o.kids) (kid_of base s d v e p h o hash all k) f z in
-            let y2 = r.is (kid plus o.kids) (kid_of base s d v e p h o plus t.any u.any) (f ++ plus ∷ []) (width_next f plus ∙ omega (arith, z)) in
-            let y3 = x.is (kid g o.kids) (kid_of base s d v e p h o g t.own u.own) (f ++ g ∷ []) (width_next f g ∙ omega (arith, z, u.next.long)) in
+            let y1 = q.is base s (d + 1) (kid hash o.kids) (kid_of base s d nd.values nd.end nd.past h o hash all k) f z in
+            let y2 = r.is (kid plus o.kids) (kid_of base s d nd.values nd.end nd.past h o plus t.any u.any) (f ++ plus ∷ []) (width_next f plus ∙ omega (arith, z)) in
+            let y3 = x.is (kid g o.kids) (kid_of base s d nd.values nd.end nd.past h o g t.own u.own) (f ++ g ∷ []) (width_next f g ∙ omega (arith, z, u.next.long)) in
             rw (u.next.levels, o.is, walk-on, count-on, length-append, length-append)
             (sized_both _ _ _ _ before a m y1 (sized_both _ _ _ _ a b m y2 y3));
       }

@@ -1,4 +1,5 @@
 -- Where a listing's walk begins, by the name's first level. Assumes nothing.
+use Rattle.std.specs.Prelude.{Option}
 use mathlib.Core.Path.{◌≡◌, refl, sym, ap, ◌∙◌}
 use mathlib.Core.Bool.{Bool, true, false}
 use mathlib.Core.List.{List, [], ◌∷◌}
@@ -16,13 +17,12 @@ use Rattle.held.specs.Walks.{hit, kid}
 use Rattle.held.specs.Stream.{walk_hit, literal_hit, list_hit, walk_count, literal_count, list_count, walk_bytes, literal_bytes, list_bytes}
 use Rattle.forest.specs.Places.{unit_at}
 use Rattle.walk.specs.declared.Node.{Node}
-use Rattle.walk.specs.declared.Node.TheVariants.{At}
-use Rattle.walk.specs.Nodes.{values_in, Listed, NodeIs, Kid}
+use Rattle.walk.specs.Nodes.{node_at, values_in, Listed, NodeIs, Kid}
 use Rattle.walk.specs.Steps.{NextLevel}
 use Rattle.walk.specs.Starts.{Started}
 
 -- the node above the top row
-top_is : (base n : ℕ) (s : List ℕ) → Listed base s n → NodeIs base s 0 (At 0 0 n) (hit [] (values_in base s n))
+top_is : (base n : ℕ) (s : List ℕ) → Listed base s n → NodeIs base s 0 (node_at 0 0 n) (hit [] (values_in base s n))
 top_is base n s l =
     record { count = refl; few = omega arith; values = part_none (unit_at base 0) s; small = tt; stands = l.stands; shallow = omega (arith, l.shallow) }
 
@@ -54,7 +54,7 @@ module _ (g : Level) (gs : Filter) (F : Forest ℕ) (e : dollar g ≡ true) wher
   dollar-bytes = rw e
 
 module _ (base n : ℕ) (s name : List ℕ) (stop : ℕ) (next : NextLevel name 0 stop) {t : Bool} (meta : t ≡ dollar (take (stop - 0) (drop 0 name))) where
-  pub start_top : t ≡ false → unit_at base n ≤ length s → 64 + n ≤ base → Started base s n name (record { node = At 0 0 n; depth = 0; from = 0 })
+  pub start_top : t ≡ false → unit_at base n ≤ length s → 64 + n ≤ base → Started base s n name (record { node = node_at 0 0 n; depth = 0; from = 0 })
   start_top e a b =
       let lead : lead_dollar (split name) ≡ false = rw next.levels (sym meta ∙ e) in
       record {
@@ -70,7 +70,7 @@ module _ (base n : ℕ) (s name : List ℕ) (stop : ℕ) (next : NextLevel name 
             record { at = hit [] F; at_is = top_is base n s l; hit_is = plain_hit (split name) F lead; count_is = plain_count (split name) F lead; bytes_are = plain-bytes (split name) F lead };
       }
 
-  pub start-dollar : t ≡ true → {own : Node} → Kid base s 0 0 n (take (stop - 0) (drop 0 name)) own → Started base s n name (record { node = own; depth = 1; from = stop + 1 })
+  pub start-dollar : t ≡ true → {own : Option Node} → Kid base s 0 0 n (take (stop - 0) (drop 0 name)) own → Started base s n name (record { node = own; depth = 1; from = stop + 1 })
   start-dollar e {own} k =
       let g : Level = take (stop - 0) (drop 0 name) in
       let gs : Filter = levels_at name (stop + 1) in

@@ -1,4 +1,5 @@
 -- FOR THE CODE. A node that a walk has come to, by its units. Assumes nothing.
+use Rattle.std.specs.Prelude.{Some, None, Option}
 use Rattle.std.specs.Prelude.{◌≡◌, ℕ, ◌+◌, ◌*◌, ◌^◌, ◌≤◌, ◌<◌, List, length}
 use Rattle.lent.specs.Parts.{part}
 use Rattle.held.specs.Order.{Level}
@@ -10,7 +11,6 @@ use Rattle.region.specs.Units.{value_bytes, value_of}
 use Rattle.forest.specs.Places.{unit_at, forest_in}
 use Rattle.forest.specs.Stands.{Stands}
 use Rattle.walk.specs.declared.Node.{Node}
-use Rattle.walk.specs.declared.Node.TheVariants.{At, Nothing}
 use Rattle.walk.specs.Height.{height_f}
 
 -- a forest of values stands in the units from lo up to hi, its rows at depth d
@@ -25,10 +25,14 @@ pub record Listed (base : ℕ) (s : List ℕ) (n : ℕ) : Type 0 where
   pub stands : ValuesStand base s 1 0 n (values_in base s n)
   pub shallow : height_f (values_in base s n) ≤ 128
 
+-- one whose values stand from unit v up to unit e, and its children from there up to unit p
+abbrev pub node_at : (v e p : ℕ) → Option Node
+node_at v e p = Some (record { values = v; end = e; past = p })
+
 -- whatever the bytes are, a node lies within the units
-abbrev pub NodeIn : (base : ℕ) → List ℕ → Node → Type 0
-NodeIn base s (At v e p) = (v ≤ e) × (e ≤ p) × (unit_at base p ≤ length s) × (64 + p ≤ base)
-NodeIn base s Nothing = Unit
+abbrev pub NodeIn : (base : ℕ) → List ℕ → Option Node → Type 0
+NodeIn base s (Some n) = (n.values ≤ n.end) × (n.end ≤ n.past) × (unit_at base n.past ≤ length s) × (64 + n.past ≤ base)
+NodeIn base s None = Unit
 
 -- units from lo up to hi that lie in the region, and have their marks
 pub record Below (base : ℕ) (s : List ℕ) (lo hi : ℕ) : Type 0 where
@@ -46,13 +50,13 @@ pub record NodeHolds (base : ℕ) (s : List ℕ) (d v e p : ℕ) (own : List ℕ
   pub shallow : d + height_f kids ≤ 128
 
 -- a node at depth d of a region that is this node of a forest
-abbrev pub NodeIs : (base : ℕ) → List ℕ → (d : ℕ) → Node → Hit ℕ → Type 0
-NodeIs base s d (At v e p) miss = ⊥
-NodeIs base s d (At v e p) (hit own kids) = NodeHolds base s d v e p own kids
-NodeIs base s d Nothing miss = Unit
-NodeIs base s d Nothing (hit own kids) = ⊥
+abbrev pub NodeIs : (base : ℕ) → List ℕ → (d : ℕ) → Option Node → Hit ℕ → Type 0
+NodeIs base s d (Some n) miss = ⊥
+NodeIs base s d (Some n) (hit own kids) = NodeHolds base s d n.values n.end n.past own kids
+NodeIs base s d None miss = Unit
+NodeIs base s d None (hit own kids) = ⊥
 
 -- the child with the level g of a node at depth d, whose children stand from lo up to hi
-pub record Kid (base : ℕ) (s : List ℕ) (d lo hi : ℕ) (g : Level) (v : Node) : Type 0 where
+pub record Kid (base : ℕ) (s : List ℕ) (d lo hi : ℕ) (g : Level) (v : Option Node) : Type 0 where
   pub inside : NodeIn base s v
   pub is : (F : Forest ℕ) → ValuesStand base s (d + 1) lo hi F → d + height_f F ≤ 128 → NodeIs base s (d + 1) v (kid g F)

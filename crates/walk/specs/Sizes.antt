@@ -1,5 +1,5 @@
 -- FOR THE CODE. What a walk's records take: their bytes and their number. A sum of over 64 bits stays at the largest number. Assumes nothing.
-use Rattle.std.specs.Prelude.{◌≡◌, ℕ, ◌+◌, ◌*◌, ◌^◌, ◌<◌, min, List, [], ◌∷◌, length}
+use Rattle.std.specs.Prelude.{Option, ◌≡◌, ℕ, ◌+◌, ◌*◌, ◌^◌, ◌<◌, min, List, [], ◌∷◌, length}
 use Rattle.level.specs.Levels.{width}
 use Rattle.held.specs.Order.{Filter}
 use Rattle.held.specs.Walks.{Hit}
@@ -29,11 +29,11 @@ pub record RecordSized (before : Measured) (v e text : ℕ) (m : Measured) : Typ
   pub is : (own : List ℕ) → length own < 65536 → e ≡ v + length own → Sized before (record_size text own) (one_of own) m
 
 -- of a '#' below a path, whose levels take `size` bytes, each with the '/' after it
-pub record HashSized (before : Measured) (n : Node) (size : ℕ) (m : Measured) : Type 0 where
+pub record HashSized (before : Measured) (n : Option Node) (size : ℕ) (m : Measured) : Type 0 where
   pub is : (base : ℕ) (s : List ℕ) (d : ℕ) (h : Hit ℕ) → NodeIs base s d n h → (p : Filter) → width p ≡ size
       → Sized before (length (hash_bytes p h)) (hash_count h) m
 
 -- from a node at depth d with such a path, with the name's remaining levels
-pub record Sizes (before : Measured) (base : ℕ) (s : List ℕ) (d : ℕ) (n : Node) (size : ℕ) (ns : Filter) (m : Measured) : Type 0 where
+pub record Sizes (before : Measured) (base : ℕ) (s : List ℕ) (d : ℕ) (n : Option Node) (size : ℕ) (ns : Filter) (m : Measured) : Type 0 where
   pub is : (h : Hit ℕ) → NodeIs base s d n h → (p : Filter) → width p ≡ size
       → Sized before (length (walk_bytes p ns h)) (walk_count ns h) m

@@ -10,15 +10,13 @@ fn most_records(n: usize, name: &[u8]) -> usize
 {
     let levels = level::level_count(name);
     let mut most: usize = 2;
-    let mut j: usize = 0;
-    while j < levels {
+    for _ in 0..levels {
         if n <= most {
             return n;
         }
         most = 2 * most + 1;
-        j += 1;
     }
-    if n < most { n } else { most }
+    n.min(most)
 }
 
 // How many bytes a listing from n units has at most: a record has 6 bytes, and a text of at most twice the name's bytes and 3; a

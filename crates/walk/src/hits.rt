@@ -11,25 +11,21 @@ ghost use Rattle.walk.specs.Hits.{Hits, HashHits};
 use crate::{Node, nodes};
 
 // The node has a value.
-fn has_values(node: Node) -> bool
+fn has_values(node: Option<Node>) -> bool
     ensures { HashHits node result }
 {
     match node {
-        Node::At {
-            values,
-            end,
-            past: _,
-        } => values < end,
-        Node::Nothing => false,
+        Some(node) => node.values < node.end,
+        None => false,
     }
 }
 
 // From a node at a depth, with the levels of the name from a place on.
-fn hits(s: &[u8], base: usize, node: Node, depth: usize, name: &[u8], from: usize) -> bool
+fn hits(s: &[u8], base: usize, node: Option<Node>, depth: usize, name: &[u8], from: usize) -> bool
     requires { NodeIn base s.now node × Steps name.now depth from }
     ensures { Hits base s.now depth node (levels_at name.now from) result }
 {
-    let Node::At { values, end, past } = node else {
+    let Some(Node { values, end, past }) = node else {
         return false;
     };
     let all = nodes::hash_child(s, base, end, past, depth);

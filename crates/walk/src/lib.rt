@@ -17,19 +17,16 @@ pub use sizes::{measure, own_text, value_count};
 
 // A node: the unit where its values begin, the unit behind them, where its children begin, and the unit behind all below it.
 #[derive(Clone, Copy)]
-pub enum Node {
-    At {
-        values: usize,
-        end: usize,
-        past: usize,
-    },
-    Nothing,
+pub struct Node {
+    pub values: usize,
+    pub end: usize,
+    pub past: usize,
 }
 
 // Where a listing's walk begins: a node, its depth, and where in the name the level below it begins.
 #[derive(Clone, Copy)]
 pub struct Start {
-    pub node: Node,
+    pub node: Option<Node>,
     pub depth: usize,
     pub from: usize,
 }
@@ -37,8 +34,8 @@ pub struct Start {
 // Where a walk goes on: to the child '+', and to the child with the name's level, which ends at `stop`.
 #[derive(Clone, Copy)]
 pub struct Step {
-    pub any: Node,
-    pub own: Node,
+    pub any: Option<Node>,
+    pub own: Option<Node>,
     pub stop: usize,
 }
 

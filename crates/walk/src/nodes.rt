@@ -1,50 +1,45 @@
 // The children of a node that a walk takes.
-ghost use Rattle.std.specs.Prelude.{◌≡◌, [], ◌∷◌, ◌+◌, ◌≤◌, min, length};
+ghost use Rattle.std.specs.Prelude.{◌≡◌, [], ◌∷◌, ◌+◌, ◌≤◌, length};
 ghost use Rattle.forest.specs.Places.{unit_at};
 ghost use Rattle.walk.specs.Nodes.{Below, Kid};
 ghost use Rattle.walk.specs.Steps.{NextLevel, StepTo};
 ghost use Rattle.walk.specs.Starts.{Started};
 
 use crate::{Node, Start, Step};
-use seek::Child;
-
-fn smaller(a: usize, b: usize) -> usize
-    ensures { result ≡ min a b }
-{
-    if b < a { b } else { a }
-}
 
 // The child with a level, of a node at a depth whose children stand in the units from lo up to hi.
-pub fn child(s: &[u8], base: usize, lo: usize, hi: usize, depth: usize, level: &[u8]) -> Node
+pub fn child(
+    s: &[u8],
+    base: usize,
+    lo: usize,
+    hi: usize,
+    depth: usize,
+    level: &[u8],
+) -> Option<Node>
     requires { Below base s.now lo hi }
     ensures { Kid base s.now depth lo hi level.now result }
 {
     if 128 <= depth {
-        return Node::Nothing;
+        return None;
     }
-    let found = seek::find_child(s, base, lo, hi, depth + 1, level);
-    match found {
-        Child::At { node, end, past } => {
-            return Node::At {
-                values: smaller(node + (level.len() + 23) / 16, end),
-                end,
-                past,
-            };
-        }
-        Child::Nothing { place: _ } => {
-            return Node::Nothing;
-        }
+    match seek::find_child(s, base, lo, hi, depth + 1, level) {
+        Ok(found) => Some(Node {
+            values: (found.node + (level.len() + 23) / 16).min(found.end),
+            end: found.end,
+            past: found.past,
+        }),
+        Err(_) => None,
     }
 }
 
-pub fn hash_child(s: &[u8], base: usize, lo: usize, hi: usize, depth: usize) -> Node
+pub fn hash_child(s: &[u8], base: usize, lo: usize, hi: usize, depth: usize) -> Option<Node>
     requires { Below base s.now lo hi }
     ensures { Kid base s.now depth lo hi (35 ∷ []) result }
 {
     child(s, base, lo, hi, depth, b"#")
 }
 
-pub fn plus_child(s: &[u8], base: usize, lo: usize, hi: usize, depth: usize) -> Node
+pub fn plus_child(s: &[u8], base: usize, lo: usize, hi: usize, depth: usize) -> Option<Node>
     requires { Below base s.now lo hi }
     ensures { Kid base s.now depth lo hi (43 ∷ []) result }
 {
@@ -96,11 +91,11 @@ pub fn begin(s: &[u8], base: usize, n: usize, name: &[u8]) -> Start
         };
     }
     Start {
-        node: Node::At {
+        node: Some(Node {
             values: 0,
             end: 0,
             past: n,
-        },
+        }),
         depth: 0,
         from: 0,
     }

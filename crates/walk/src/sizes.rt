@@ -6,34 +6,22 @@ ghost use Rattle.held.specs.Stream.{list_bytes, list_count};
 ghost use Rattle.forest.specs.Places.{unit_at};
 ghost use Rattle.walk.specs.Nodes.{NodeIn, Listed, values_in};
 ghost use Rattle.walk.specs.Steps.{Steps, Sizing};
-ghost use Rattle.walk.specs.Sizes.{capped, nothing, Sized, RecordSized, HashSized, Sizes};
+ghost use Rattle.walk.specs.Sizes.{nothing, Sized, RecordSized, HashSized, Sizes};
 
 use crate::{Measured, Node, nodes};
-
-const TOP: usize = 18446744073709551615;
-
-fn sum(a: usize, b: usize) -> usize
-    ensures { result ≡ capped (a + b) }
-{
-    if a <= TOP - b { a + b } else { TOP }
-}
 
 // How many values stand in the units from values up to end. A row has no more than its head can say.
 pub fn value_count(values: usize, end: usize) -> usize
     ensures { result ≡ min (end - values) 65535 }
 {
-    if end <= values {
-        return 0;
-    }
-    let n = end - values;
-    if n < 65535 { n } else { 65535 }
+    end.saturating_sub(values).min(65535)
 }
 
 // The text of a node's own filter: its levels, without the '/' after the last.
 pub fn own_text(size: usize) -> usize
     ensures { result ≡ size - 1 }
 {
-    if size == 0 { 0 } else { size - 1 }
+    size.saturating_sub(1)
 }
 
 // With one record more, where there are values.
@@ -46,26 +34,18 @@ fn record_size(before: Measured, values: usize, end: usize, text: usize) -> Meas
         return before;
     }
     Measured {
-        bytes: sum(before.bytes, 6 + text + 4 * n),
-        records: sum(before.records, 1),
+        bytes: before.bytes.saturating_add(6 + text + 4 * n),
+        records: before.records.saturating_add(1),
     }
 }
 
-fn hash_size(before: Measured, node: Node, size: usize) -> Measured
+fn hash_size(before: Measured, node: Option<Node>, size: usize) -> Measured
     requires { size ≤ 4294967295 }
     ensures { HashSized before node size result }
 {
     match node {
-        Node::At {
-            values,
-            end,
-            past: _,
-        } => {
-            return record_size(before, values, end, size + 1);
-        }
-        Node::Nothing => {
-            return before;
-        }
+        Some(node) => record_size(before, node.values, node.end, size + 1),
+        None => before,
     }
 }
 
@@ -74,7 +54,7 @@ fn sizes(
     before: Measured,
     s: &[u8],
     base: usize,
-    node: Node,
+    node: Option<Node>,
     depth: usize,
     name: &[u8],
     from: usize,
@@ -83,7 +63,7 @@ fn sizes(
     requires { NodeIn base s.now node × Steps name.now depth from × Sizing name.now from size }
     ensures { Sizes before base s.now depth node size (levels_at name.now from) result }
 {
-    let Node::At { values, end, past } = node else {
+    let Some(Node { values, end, past }) = node else {
         return before;
     };
     let all = nodes::hash_child(s, base, end, past, depth);

@@ -3,8 +3,8 @@ use borrow.Author.Rules.{rules}
 use Rattle.audit.proofs.RowLaws.{mark_wrong, mark_right}
 use Rattle.audit.proofs.written.marks_are_sound.Goals as goal
 
-pub returns-then-wide-d : goal.returns-then-wide-d
-returns-then-wide-d c = search (rules, mark_wrong)
+pub returns-then-from-d : goal.returns-then-from-d
+returns-then-from-d c = search (rules, mark_wrong)
 
 pub returns : goal.returns
 returns c = search (rules, mark_right)

@@ -4,4 +4,4 @@ use Rattle.cjumbradi.proofs.regions.cjumbradi_needed.Goals as goal
 
 pub returns : goal.returns
 returns c =
-    needed-told c.capacities.ensures c.tell_size.ensures c.needed.ensures
+    needed-told c.capacities.ensures c.tell_changed.ensures c.needed.ensures

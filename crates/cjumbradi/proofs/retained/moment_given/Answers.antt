@@ -7,5 +7,5 @@ pub returns-then-expires-eq0 : goal.returns-then-expires-eq0
 returns-then-expires-eq0 c = search (rules, given_never)
 
 -- src/retained.rt:17:1
-pub returns : goal.returns
-returns c = search (rules, given_at)
+pub returns-else-expires-eq0 : goal.returns-else-expires-eq0
+returns-else-expires-eq0 c = search (rules, given_at)

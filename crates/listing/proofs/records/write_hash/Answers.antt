@@ -6,8 +6,8 @@ use Rattle.listing.proofs.records.write_hash.Goals as goal
 pub write_record-requires : goal.write_record-requires
 write_record-requires c = search (rules, hash_record)
 
-pub returns-in-At : goal.returns-in-At
-returns-in-At c = search (rules, hash_written)
+pub returns-in-Some : goal.returns-in-Some
+returns-in-Some c = search (rules, hash_written)
 
-pub returns-in-Nothing : goal.returns-in-Nothing
-returns-in-Nothing c = search (rules, hash_absent)
+pub returns-in-None : goal.returns-in-None
+returns-in-None c = search (rules, hash_absent)

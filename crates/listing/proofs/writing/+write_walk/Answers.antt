@@ -81,6 +81,6 @@ returns t c =
     let i = c.if-depth-ge128.false in
     let u = c.go_on-t.ensures in
     let m = c.marks-1.given ∙ (trail-plus _ _ _ _ _ _ c.requires.1 u.next i).marked in
-    walked_on _ _ _ _ _ _ _ _ _ _ _ c.in-At.is _ c.requires.1 i
+    walked_on _ _ _ _ _ _ _ _ _ c.in-Some.is _ c.requires.1 i
     _ _ c.out-2-1.given c.write_below-next.ensures _ u
     _ _ _ m c.out-3-1.given c.write_walk-then.ensures _ _ _ c.write_walk.ensures

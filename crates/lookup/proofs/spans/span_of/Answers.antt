@@ -6,8 +6,8 @@ use Rattle.lookup.proofs.spans.span_of.Goals as goal
 pub returns-then-step : goal.returns-then-step
 returns-then-step c = search (rules, span-all)
 
-pub returns-in-At : goal.returns-in-At
-returns-in-At c = search (rules, span_one)
+pub returns-in-Ok : goal.returns-in-Ok
+returns-in-Ok c = search (rules, span_one)
 
-pub returns-in-Nothing : goal.returns-in-Nothing
-returns-in-Nothing c = search (rules, span_none)
+pub returns-in-Err : goal.returns-in-Err
+returns-in-Err c = search (rules, span_none)

@@ -4,8 +4,8 @@ use Rattle.retain.proofs.LookLaws.{look_short, look_given}
 use borrow.Author.Rules.{rules}
 use Rattle.retain.proofs.asking.look_in.Goals as goal
 
-pub measure-m-requires : goal.measure-m-requires
-measure-m-requires c = search (rules, lent_units)
+pub measure-found-requires : goal.measure-found-requires
+measure-found-requires c = search (rules, lent_units)
 
 -- src/asking.rt:37:9
 pub returns-then-out-bytes : goal.returns-then-out-bytes

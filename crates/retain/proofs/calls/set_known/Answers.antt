@@ -2,11 +2,14 @@
 use Rattle.edit.proofs.StepLaws.{text-accepted}
 use Rattle.retain.proofs.KnownLaws.{name_refused, sets, erases}
 use borrow.Author.Rules.{rules}
+use Rattle.std.proofs.lemmas.Result.{err_from_is_err_and}
 use Rattle.retain.proofs.calls.set_known.Goals as goal
 
 -- src/calls.rt:40:9
-pub returns-in-Refused : goal.returns-in-Refused
-returns-in-Refused c = search (rules, name_refused)
+pub returns-in_err-is_valid_topic_name : goal.returns-in_err-is_valid_topic_name
+returns-in_err-is_valid_topic_name c =
+    let p = err_from_is_err_and c.from_residual.result c.from_residual.ensures.1 in
+    rw (p.1, p.2) (search (rules, name_refused))
 
 -- src/calls.rt:43:9
 pub erase_accepted-requires : goal.erase_accepted-requires

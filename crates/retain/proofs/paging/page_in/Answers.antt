@@ -5,8 +5,8 @@ use borrow.Author.Rules.{rules}
 use Rattle.retain.proofs.paging.page_in.Goals as goal
 
 -- src/paging.rt:38:9
-pub measure-m-requires : goal.measure-m-requires
-measure-m-requires c = search (rules, lent_units)
+pub measure-found-requires : goal.measure-found-requires
+measure-found-requires c = search (rules, lent_units)
 
 -- src/paging.rt:43:9
 pub returns-then-out-bytes : goal.returns-then-out-bytes

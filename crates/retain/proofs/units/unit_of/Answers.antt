@@ -4,8 +4,8 @@ use borrow.Author.Rules.{rules}
 use Rattle.retain.proofs.units.unit_of.Goals as goal
 
 -- src/units.rt:10:1
-pub returns-in-At : goal.returns-in-At
-returns-in-At c = search (rules, unit-at)
+pub returns-in-Some : goal.returns-in-Some
+returns-in-Some c = search (rules, unit-at)
 
 -- src/units.rt:10:1
 pub returns-in_default : goal.returns-in_default

@@ -12,7 +12,7 @@ loop-a-preserved-in-Less c = (
   search rules,
   search rules,
   narrow-less _ _ _ _ _ _ _ _ c.probe-p.result _ _ c.loop-a.invariant.3
-      c.probe-p.ensures c.level_at.ensures c.compare-o.ensures c.row_at-r.result c.row_at-r.ensures _ c.larger-a.ensures (search rules),
+      c.probe-p.ensures c.level_at.ensures c.compare.ensures c.row_at-r.result c.row_at-r.ensures _ c.max-a.ensures (search rules),
 )
 
 pub returns-in-Equal : goal.returns-in-Equal

@@ -17,8 +17,8 @@ overflow_add-from c =
 pub loop-depth-preserved : goal.loop-depth-preserved
 loop-depth-preserved c = search (rules, going_next)
 
-pub returns-in-Nothing : goal.returns-in-Nothing
-returns-in-Nothing c = search (rules, path-missing)
+pub returns-in-Err : goal.returns-in-Err
+returns-in-Err c = search (rules, path-missing)
 
 pub returns-after-loop-depth : goal.returns-after-loop-depth
 returns-after-loop-depth c = search (rules, path_full)

@@ -3,10 +3,7 @@ use Rattle.sweep.proofs.RowLaws.{level_few, cells_level}
 use borrow.Author.Rules.{rules}
 use Rattle.sweep.proofs.row.cells_at.Goals as goal
 
-pub cells_of-requires : goal.cells_of-requires
-cells_of-requires c = search (rules, level_few)
-
 pub returns : goal.returns
 returns c =
     let a = c.args in
-    cells_level a.base a.i a.n a.s.now c.level_at-level.ensures c.cells_of.ensures.0 c.cells_of.ensures.1
+    cells_level a.base a.i a.n a.s.now c.level_at-level.ensures c.cells_of.ensures.0 (c.cells_of.ensures.1 (search (rules, level_few)))

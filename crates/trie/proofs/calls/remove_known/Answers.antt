@@ -2,11 +2,14 @@
 use Rattle.edit.proofs.StepLaws.{text-accepted}
 use Rattle.trie.proofs.StepLaws.{remove_text_refused}
 use borrow.Author.Rules.{rules}
+use Rattle.std.proofs.lemmas.Result.{err_from_is_err_and}
 use Rattle.trie.proofs.calls.remove_known.Goals as goal
 
 -- src/calls.rt:52:9
-pub returns-in-Refused : goal.returns-in-Refused
-returns-in-Refused c = search (rules, remove_text_refused)
+pub returns-in_err-is_valid_topic_filter : goal.returns-in_err-is_valid_topic_filter
+returns-in_err-is_valid_topic_filter c =
+    let p = err_from_is_err_and c.from_residual.result c.from_residual.ensures.1 in
+    rw (p.1, p.2) (search (rules, remove_text_refused))
 
 -- src/calls.rt:54:5
 pub remove_accepted-requires : goal.remove_accepted-requires

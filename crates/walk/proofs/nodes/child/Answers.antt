@@ -7,11 +7,11 @@ use Rattle.walk.proofs.nodes.child.Goals as goal
 pub returns-then-depth-ge128 : goal.returns-then-depth-ge128
 returns-then-depth-ge128 c = search (rules, kid_deep)
 
-pub overflow_add-node : goal.overflow_add-node
-overflow_add-node c = let w = rw c.in-At.is at c.find_child-found.ensures.1 in omega arith
+pub overflow_add-found : goal.overflow_add-found
+overflow_add-found c = let w = rw c.in-Ok.is at c.find_child.ensures.1 in omega arith
 
-pub returns-in-At : goal.returns-in-At
-returns-in-At c = search (rules, kid_some)
+pub returns-in-Ok : goal.returns-in-Ok
+returns-in-Ok c = search (rules, kid_some)
 
-pub returns-in-Nothing : goal.returns-in-Nothing
-returns-in-Nothing c = search (rules, kid-none)
+pub returns-in-Err : goal.returns-in-Err
+returns-in-Err c = search (rules, kid-none)
