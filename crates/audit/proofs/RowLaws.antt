@@ -222,9 +222,6 @@ module _ (l : Level) {p : Bool} (ep : p ≡ is_only 43 l) where
     pub cells-hash : q ≡ true → 0 ≡ level_cells l
     cells-hash h = rw (sym ep ∙ hp, sym eq ∙ h)
 
-    pub cells_text : q ≡ false → length l / 16 + (length l % 16 + 15) / 16 ≡ level_cells l
-    cells_text h = rw (sym ep ∙ hp, sym eq ∙ h) (omega arith)
-
 -- what a node takes
 module _ (a : Left) (l : Level) (own : ℕ) where
   pub take_nodes : a.nodes < 1 → None ≡ taken a l own

@@ -21,17 +21,6 @@ told_is e q = rw (e, q)
 pub said : {A : Type 0} (of : A → Told) {x y : A} {t : Told} → t ≡ of x → x ≡ y → t ≡ of y
 said of e q = e ∙ ap of q
 
--- the same, in the arm of a match
-pub told_arm : {A : Type 0} (of : A → Told) {x y : A} {t : Told} → t ≡ of y → x ≡ y → t ≡ of x
-told_arm of e q = e ∙ ap of (sym q)
-
--- and with another value, or with two
-pub told_two : {A : Type 0} (of : A → Told × ℕ) {x y : A} {t : Told} {k : ℕ} → t ≡ (of y).0 → k ≡ (of y).1 → x ≡ y → (t, k) ≡ of x
-told_two of e f q = rw (e, f, q)
-
-pub told_three : {A : Type 0} (of : A → Told × ℕ × ℕ) {x y : A} {t : Told} {k l : ℕ} → t ≡ (of y).0 → k ≡ (of y).1 → l ≡ (of y).2 → x ≡ y → (t, k, l) ≡ of x
-told_three of e f g q = rw (e, f, g, q)
-
 -- no refusal is told as 0
 pub number_some : (x : Refusal) → eqb (told x).number 0 ≡ false
 number_some Empty = refl

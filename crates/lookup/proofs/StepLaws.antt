@@ -43,20 +43,3 @@ module _ (filter : List ℕ) (from stop : ℕ) (n : NextLevel filter from stop) 
         within = omega (arith, n.within);
         wild_is = q ∙ sym (ap lead_wild n.levels ∙ rw e (or-false (is_only 43 (take (stop - from) (drop from filter)))));
       }
-
--- the page
-pub page_before : (offset limit number : ℕ) → number < offset → false ≡ in_page offset limit number
-page_before offset limit number h = rw (lt-leb offset number h)
-
-pub page-in : (offset limit number : ℕ) → offset ≤ number → ltb (number - offset) limit ≡ in_page offset limit number
-page-in offset limit number h = rw (le-leb offset number h)
-
--- the bar of '$'
-pub bars_top : (left : ℕ) (wild : Bool) → left ≡ 128 → wild ≡ (eqb left 128 && wild)
-bars_top left wild h = rw (eq-eqb left 128 h)
-
-pub bars_below : (left : ℕ) (wild : Bool) → (left ≡ 128 → ⊥) → false ≡ (eqb left 128 && wild)
-bars_below left wild h = rw (ne_eqb left 128 h)
-
-pub hides : (b : Bool) (l : List ℕ) {m : List ℕ} {r : Bool} → b ≡ true → m ≡ l → r ≡ dollar m → r ≡ (b && dollar l)
-hides b l e f g = g ∙ ap dollar f ∙ rw e

@@ -5,4 +5,3 @@ pub mod Stores
 pub mod CountLaws
 pub mod ShapeLaws
 pub mod Fitted
-pub mod FitLaws

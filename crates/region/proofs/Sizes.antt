@@ -27,16 +27,7 @@ up_none most n h = rw (le-ltb 0 n h)
 
 -- the answers of `in_range`, from its tests in their order
 module _ (r : Room) {a : Bool} (ea : a ≡ up_to 4096 r.nodes) where
-  pub nodes_out : a ≡ false → false ≡ in_range r
-  nodes_out h = rw (sym ea ∙ h)
-
   module _ (ha : a ≡ true) {b : Bool} (eb : b ≡ up_to 8192 r.pairs) where
-    pub pairs_out : b ≡ false → false ≡ in_range r
-    pairs_out h = rw (sym ea ∙ ha, sym eb ∙ h)
-
-    pub cells_last : b ≡ true → {c : Bool} → c ≡ up_to 8192 r.cells → c ≡ in_range r
-    cells_last h ec = rw (sym ea ∙ ha, sym eb ∙ h) ec
-
 -- what fits in range
 pub few_units : (r : Room) → in_range r ≡ true → r.nodes + r.pairs + r.cells ≤ 20480
 few_units r h = let i = in-range r h in omega (arith, i.nodes.1, i.pairs.1, i.cells.1)
@@ -47,12 +38,6 @@ needed_units r = omega arith
 
 -- the answers of `needed`
 module _ (r : Room) {t : Bool} (et : t ≡ in_range r) where
-  pub needed-bytes : t ≡ true → {n : ℕ} → n ≡ needed_bytes r → Ok n ≡ needed_of r
-  needed-bytes h e = rw (sym et ∙ h, e)
-
-  pub needed-none : t ≡ false → Err BadSize ≡ needed_of r
-  needed-none h = rw (sym et ∙ h)
-
 -- the header of a store that holds nothing, byte by byte
 pub header_is : (r : Room) (kind : ℕ) {k a b c d e f : ℕ} → k ≡ kind
     → a ≡ r.nodes / 256 % 256 → b ≡ r.nodes % 256 → c ≡ r.pairs / 256 % 256 → d ≡ r.pairs % 256 → e ≡ r.cells / 256 % 256 → f ≡ r.cells % 256
@@ -69,20 +54,11 @@ not-false : (t : Bool) → not t ≡ false → t ≡ true
 not-false true e = refl
 not-false false e = absurd (true≢false e)
 
-pub range_in : (r : Room) {t : Bool} → t ≡ in_range r → not t ≡ false → in_range r ≡ true
-range_in r {t} e h = sym e ∙ not-false t h
-
 -- the answers of `open`
 module _ (r : Room) (s : List ℕ) {t : Bool} (et : t ≡ in_range r) where
-  pub open_range : not t ≡ true → Err BadSize ≡ checked (open_rules r s)
-  open_range h = rw (ap not (sym et) ∙ h)
-
   module _ (h : not t ≡ false) {n : ℕ} (en : n ≡ needed_bytes r) where
     pub open_short : length s < n → Err BadSize ≡ checked (open_rules r s)
     open_short l = rw (ap not (sym et) ∙ h, lt-ltb (length s) (needed_bytes r) (rw (← en) l))
-
-    pub open_done : n ≤ length s → (Ok tt) ≡ checked (open_rules r s)
-    open_done l = rw (ap not (sym et) ∙ h, le-ltb (length s) (needed_bytes r) (rw (← en) l))
 
     pub open_written : n ≤ length s → (kind : ℕ) {b u : List ℕ} → b ≡ header_bytes kind r nothing → u ≡ write 0 b s → u ≡ patch 0 (header_bytes kind r nothing) s
     open_written l kind eb e =

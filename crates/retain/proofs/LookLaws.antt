@@ -39,17 +39,6 @@ use Rattle.retain.specs.Lookups.{paged}
 use Rattle.retain.specs.Calls.{held_in}
 use Rattle.retain.specs.Lookups.{LooksKnown, Looks, PagesKnown, Pages, page_answer}
 
--- more follows, by a sum that is not made
-pub more_past : (offset limit : ℕ) {total : ℕ} → total < offset → false ≡ ltb (offset + limit) total
-more_past offset limit {total} h = sym (le-ltb (offset + limit) total (omega arith))
-
-pub more_left : (offset limit : ℕ) {total : ℕ} → offset ≤ total → ltb limit (total - offset) ≡ ltb (offset + limit) total
-more_left offset limit {total} h = go (ltb limit (total - offset)) refl
-  where
-    go : (t : Bool) → ltb limit (total - offset) ≡ t → t ≡ ltb (offset + limit) total
-    go true e = sym (lt-ltb (offset + limit) total (omega (arith, ltb-true limit (total - offset) e)))
-    go false e = sym (le-ltb (offset + limit) total (omega (arith, ltb-false limit (total - offset) e)))
-
 -- the forest of a store stands in its units, and is at most 128 deep
 module _ (s : List ℕ) {base n room : ℕ} (units : UnitsOf s base n room) where
   module _ (st : RetainedStore s) where

@@ -1,20 +1,71 @@
 -- What parsing and the level calls answer, from their tests in their order. Assumes nothing.
 use mathlib.Core.Path.{◌≡◌, refl, sym, ap, ◌∙◌}
-use mathlib.Core.Bool.{Bool, true, false, cond}
+use mathlib.Core.Bool.{Bool, true, false, not, cond}
 use mathlib.Core.List.{List, []}
 use Prim.Native.Nat.{ℕ, ◌≤◌, ◌<◌}
 use native.Mathlib.Omega.{arith}
 use lib.Dec.{ltb}
 use lib.ListN.{length, take, drop, drop_of_length-le, get_or}
-use borrow.Author.Tests.{ltb-true, ltb-false}
+use borrow.Author.Tests.{ltb-true, ltb-false, le-ltb}
 use Rattle.refusal.specs.declared.Refusal.{Refusal}
 use Rattle.level.specs.declared.Kind.{Kind}
 use Rattle.level.specs.Levels.{split, start_of}
 use Rattle.level.specs.Kinds.{kind_of}
 use Rattle.level.specs.Places.{first}
 use Rattle.level.proofs.Split.{take-first, levels_in, get_or_from, start-within}
-use Rattle.std.specs.Prelude.{Option, Some, None, Result, Ok, Err, unwrap_or}
-use Rattle.topic.specs.Answers.{parsed, if_parsed, start_at, kind_at, part_at, place_at}
+use Rattle.std.specs.Prelude.{⊤, Option, Some, None, Result, Ok, Err, unwrap_or}
+use Rattle.topic.specs.Rules.{parse_rules, level_rules}
+use Rattle.utf8.specs.Utf8.{is_utf8}
+use Rattle.refusal.specs.declared.Refusal.TheVariants.{NotUtf8}
+use Rattle.topic.specs.Answers.{checked, and_then, parsed, if_parsed, start_at, kind_at, part_at, place_at}
+
+-- parsing, by its tests in their order
+module _ (s : List ℕ) {u : Bool} (eu : u ≡ is_utf8 s) where
+  pub parse_broken : not u ≡ true → Err NotUtf8 ≡ parsed s
+  parse_broken h = rw (ap not (sym eu) ∙ h)
+
+  module _ (h : not u ≡ false) {k : Result ⊤ Refusal} (ek : k ≡ checked (level_rules s)) where
+    is-parsed : parsed s ≡ and_then k (Ok (length (split s)))
+    is-parsed = rw (ek, ap not (sym eu) ∙ h)
+
+    pub parse_refused : {r : Refusal} → k ≡ Err r → Err r ≡ parsed s
+    parse_refused q = rw (is-parsed, q)
+
+    pub parse_fine : k ≡ Ok tt → {n : ℕ} → n ≡ length (split s) → Ok n ≡ parsed s
+    parse_fine q e = rw (is-parsed, q, e)
+
+-- a text that parses has as many levels as the parse says
+levels-told : (k : Result ⊤ Refusal) (m n : ℕ) → and_then k (Ok m) ≡ Ok n → n ≡ m
+levels-told (Ok _) m n e = cc
+levels-told (Err r) m n e = cc
+
+-- the level calls, where the text is refused, and past its last level
+module _ (s : List ℕ) (k : ℕ) {p : Result ℕ Refusal} (ep : p ≡ parsed s) where
+  module _ {r : Refusal} (q : p ≡ Err r) where
+    pub kind_refused : None ≡ kind_at s k
+    kind_refused = rw (← ep, q)
+
+    pub part_refused : [] ≡ part_at s k
+    part_refused = rw (← ep, q)
+
+    pub place_refused : length s ≡ place_at s k
+    place_refused = rw (← ep, q)
+
+  module _ {n : ℕ} (q : p ≡ Ok n) (h : n ≤ k) where
+    past-last : length (split s) ≤ k
+    past-last = rw (← levels-told (checked (parse_rules s)) (length (split s)) n (sym ep ∙ q)) h
+
+    past : drop k (split s) ≡ []
+    past = drop_of_length-le (split s) {i = k} past-last
+
+    pub kind_past : None ≡ kind_at s k
+    kind_past = rw (← ep, q, past)
+
+    pub part_past : [] ≡ part_at s k
+    part_past = rw (← ep, q, get_or_from (split s) k [], past)
+
+    pub place_past : length s ≡ place_at s k
+    place_past = rw (← ep, q, le-ltb k (length (split s)) past-last)
 
 -- what is told of a level that there is: its kind and its part
 started : (s : List ℕ) (k : ℕ) (p : Result ℕ Refusal) (t : Bool) → ltb k (length (split s)) ≡ t → {at : ℕ} → if_parsed p (cond t (Some (start_of s k)) None) None ≡ Some at

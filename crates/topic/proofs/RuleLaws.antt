@@ -23,12 +23,6 @@ use Rattle.topic.specs.Answers.{checked, and_then}
 
 -- a turn of the search, at level k, which begins at at
 module _ (p : List ℕ → Bool) (s : List ℕ) (k : ℕ) {at : ℕ} (e : at ≡ start_of s k) where
-  pub fault_here : at ≤ length s → p (first (drop at s)) ≡ true → index p (drop k (split s)) ≡ 0
-  fault_here h t = rw (levels_in s k e h, t)
-
-  pub fault_next : at ≤ length s → p (first (drop at s)) ≡ false → index p (drop k (split s)) ≡ suc (index p (drop (k + 1) (split s)))
-  fault_next h t = rw (levels_in s k e h, t, add-one)
-
   pub fault-none : length s < at → index p (drop k (split s)) ≡ 0
   fault-none h = rw (levels_out s k e h)
 

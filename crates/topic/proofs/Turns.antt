@@ -17,28 +17,9 @@ use Rattle.topic.specs.Match.{level_takes, takes, lead_wild, lead_dollar}
 -- A turn: what the walk from i and j answers, `all`, from the filter's level `fl` at i and the name's level `nl` at j.
 module _ (f n : List ℕ) (i j : ℕ) {all : Bool} (turn : takes (levels_at f i) (levels_at n j) ≡ all) (hi : i ≤ length f) where
   module _ {fl : List ℕ} (ef : fl ≡ first (drop i f)) where
-    pub turn_short : length n < j → {r : Bool} → r ≡ is_only 35 fl → r ≡ all
-    turn_short h e = e ∙ ap (is_only 35) ef ∙ (rw (levels_cons f i hi, levels-none n j h) at turn)
-
-    pub turn-hash : j ≤ length n → {r : Bool} → r ≡ is_only 35 fl → r ≡ true → true ≡ all
-    turn-hash h e t =
-        let q : is_only 35 (first (drop i f)) ≡ true = ap (is_only 35) (sym ef) ∙ sym e ∙ t in
-        rw (levels_cons f i hi, levels_cons n j h, q) at turn
-
     module _ (h : j ≤ length n) {r : Bool} (e : r ≡ is_only 35 fl) (t : r ≡ false) {nl : List ℕ} (en : nl ≡ first (drop j n)) where
       no-hash : is_only 35 (first (drop i f)) ≡ false
       no-hash = ap (is_only 35) (sym ef) ∙ sym e ∙ t
-
-      pub turn_other : {k : Bool} → k ≡ level_takes fl nl → k ≡ false → false ≡ all
-      turn_other d u =
-          let q : level_takes (first (drop i f)) (first (drop j n)) ≡ false = rw (← ef, ← en) (sym d ∙ u) in
-          rw (levels_cons f i hi, levels_cons n j h, no-hash, q) at turn
-
-      pub turn-takes : {k : Bool} → k ≡ level_takes fl nl → k ≡ true
-          → takes (levels_at f (i + length fl + 1)) (levels_at n (j + length nl + 1)) ≡ all
-      turn-takes d u =
-          let q : level_takes (first (drop i f)) (first (drop j n)) ≡ true = rw (← ef, ← en) (sym d ∙ u) in
-          rw (ef, en, add-one (end_of f i), add-one (end_of n j)) (rw (levels_cons f i hi, levels_cons n j h, no-hash, q) at turn)
 
 -- the filter's levels are used up: the name's must be too
 takes_nil : (f n : List ℕ) (i j : ℕ) → length f < i → (b : Bool) → b ≡ ltb (length n) j → takes (levels_at f i) (levels_at n j) ≡ b
@@ -48,9 +29,6 @@ takes_nil f n i j hi true e =
 takes_nil f n i j hi false e =
     let h : j ≤ length n = ltb-false (length n) j (sym e) in
     rw (levels-none f i hi, levels_cons n j h)
-
-pub turn_end : (f n : List ℕ) (i j : ℕ) {all : Bool} → takes (levels_at f i) (levels_at n j) ≡ all → length f < i → ltb (length n) j ≡ all
-turn_end f n i j turn hi = sym (takes_nil f n i j hi (ltb (length n) j) refl) ∙ turn
 
 -- the '$' rule looks at the first levels
 pub lead-wild_at : (s : List ℕ) → lead_wild (split s) ≡ (is_only 43 (first s) || is_only 35 (first s))
@@ -65,7 +43,3 @@ pub ruleset lead_laws = (lead-wild_at, lead-dollar_at)
 -- what a call g(x) answered, of what x is
 pub seen : {A B : Type 0} (g : A → B) {x y : A} {r v : B} → x ≡ y → r ≡ g x → r ≡ v → g y ≡ v
 seen g p q e = ap g (sym p) ∙ sym q ∙ e
-
--- the next level begins within the text or just past it
-pub next_fits : (s : List ℕ) (i : ℕ) {l : List ℕ} → i ≤ length s → l ≡ first (drop i s) → i + length l + 1 ≤ length s + 1
-next_fits s i h e = omega (arith, part-fits s i h e)

@@ -70,8 +70,11 @@ fn list_measured(
     if out.len() < bytes {
         return Err(Refusal::ShortRoom { needed: bytes });
     }
-    let Measured { bytes, records } = listing::write_all(s, base, n, name, out);
-    Ok(Listed { bytes, records })
+    let written = listing::write_all(s, base, n, name, out);
+    Ok(Listed {
+        bytes: written.bytes,
+        records: written.records,
+    })
 }
 
 // The same. Where the buffer has room for every listing that so many units can hold for the name, it is not measured: that would
@@ -94,8 +97,11 @@ fn list_in(
     if out.len() < most {
         return list_measured(s, base, n, room, name, out);
     }
-    let Measured { bytes, records } = listing::write_all(s, base, n, name, out);
-    Ok(Listed { bytes, records })
+    let all = listing::write_all(s, base, n, name, out);
+    Ok(Listed {
+        bytes: all.bytes,
+        records: all.records,
+    })
 }
 
 // For a name that was accepted.

@@ -38,22 +38,6 @@ sized_both a b c d x y z p q =
 
 -- a record
 module _ (m : Measured) (v e text n : ℕ) (count : n ≡ min (e - v) 65535) where
-  pub record-none : n ≡ 0 → RecordSized m v e text m
-  record-none z = record { is = go }
-    where
-      go : (own : List ℕ) → length own < 65536 → e ≡ v + length own → Sized m (record_size text own) (one_of own) m
-      go [] g h = sized-none m
-      go (x ∷ own) g h = absurd (omega (arith, count, z, h))
-
-  pub record_some : (n ≡ 0 → ⊥) → (b r : ℕ) → b ≡ capped (m.bytes + (6 + text + 4 * n)) → r ≡ capped (m.records + 1) → RecordSized m v e text (record { bytes = b; records = r })
-  record_some z b r eb er = record { is = go }
-    where
-      go : (own : List ℕ) → length own < 65536 → e ≡ v + length own → Sized m (record_size text own) (one_of own) (record { bytes = b; records = r })
-      go [] f h = absurd (z (omega (arith, count, h)))
-      go (x ∷ own) f h =
-          let q : n ≡ length (x ∷ own) = omega (arith, count, h, f) in
-          record { bytes_are = λ l. omega (arith, eb, q, l); records_are = λ l. omega (arith, er, l) }
-
 pub hash_some : (b : Measured) (nd : Node) (size : ℕ) {n : Option Node} {m : Measured} → n ≡ Some nd → RecordSized b nd.values nd.end (size + 1) m → HashSized b n size m
 hash_some b nd size {n} {m} is r =
     record {
@@ -62,9 +46,6 @@ hash_some b nd size {n} {m} is r =
           let t : length (join (f ++ hash ∷ [])) ≡ size + 1 = length-join_next f hash ∙ ap (λ (x : ℕ). x + 1) w in
           rw (o.is, length_record (f ++ hash ∷ []) o.own, t) (r.is o.own o.holds.few o.holds.count);
     }
-
-pub hash-none : (b : Measured) (size : ℕ) {n : Option Node} → n ≡ None → HashSized b n size b
-hash-none b size {n} is = record { is = λ base s d h i p w. rw (missed base s d n h is i) (sized-none b) }
 
 -- the turns of `walk_count`
 pub count_miss : (ns : Filter) → walk_count {X = ℕ} ns miss ≡ 0
