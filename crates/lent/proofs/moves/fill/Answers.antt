@@ -1,20 +1,11 @@
 -- `lent::moves::fill` meets its contract. Assumes nothing.
-use borrow.Author.Rules.{rules}
-use Rattle.lent.proofs.Anywhere.{fill_short, fill_far, fill_done}
-use Rattle.lent.proofs.Turns.{filled_none, fill_step}
+use Rattle.std.proofs.Common.{rules, ℕ}
+use Rattle.std.proofs.lemmas.List.{length-replicate}
+use Rattle.lent.proofs.Anywhere.{part_written, nothing_written}
 use Rattle.lent.proofs.moves.fill.Goals as goal
 
-pub returns-then-s-count : goal.returns-then-s-count
-returns-then-s-count c = search (rules, fill_short)
+pub returns-then-fits : goal.returns-then-fits
+returns-then-fits c = search (rules, part_written)
 
-pub returns-then-s-count-2 : goal.returns-then-s-count-2
-returns-then-s-count-2 c = search (rules, fill_far)
-
-pub loop-i-init : goal.loop-i-init
-loop-i-init c = search (rules, filled_none)
-
-pub loop-i-preserved : goal.loop-i-preserved
-loop-i-preserved c = search (rules, fill_step)
-
-pub returns : goal.returns
-returns c = search (rules, fill_done)
+pub returns-else-fits : goal.returns-else-fits
+returns-else-fits c = search (rules, nothing_written, length-replicate {A = ℕ})

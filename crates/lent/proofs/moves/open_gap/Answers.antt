@@ -1,32 +1,11 @@
 -- `lent::moves::open_gap` meets its contract. Assumes nothing.
-use borrow.Author.Rules.{rules}
-use native.Mathlib.Omega.{arith}
-use Rattle.lent.proofs.Anywhere.{open_short, open_far, open_none, open_end}
-use Rattle.lent.proofs.Turns.{moved_none, open_step}
+use Rattle.std.proofs.Common.{rules}
+use Rattle.lent.proofs.Anywhere.{open_moved, open_none, nothing_opened}
+use Rattle.lent.proofs.moves.open_gap.Goals.{else-at-end-via-then-at-end+else-fits, else-at-end-via-else-at-end}
 use Rattle.lent.proofs.moves.open_gap.Goals as goal
 
-pub returns-then-s-by : goal.returns-then-s-by
-returns-then-s-by c = search (rules, open_short)
+pub returns-then-fits : goal.returns-then-fits
+returns-then-fits c = search (rules, open_moved)
 
-pub returns-then-s-by-2 : goal.returns-then-s-by-2
-returns-then-s-by-2 c = search (rules, open_far)
-
-pub returns-then-end-at : goal.returns-then-end-at
-returns-then-end-at c = search (rules, open_none)
-
-pub loop-i-init : goal.loop-i-init
-loop-i-init c = search (rules, moved_none)
-
-pub loop-i-preserved : goal.loop-i-preserved
-loop-i-preserved c =
-    let l = c.loop-i in
-    let a = c.args in (
-      omega arith,
-      omega arith,
-      omega arith,
-      open_step a.at a.end a.by l.i a.s.now l.s (omega arith) (omega arith) (omega arith) l.invariant.3,
-      search rules,
-    )
-
-pub returns : goal.returns
-returns c = search (rules, open_end)
+pub returns-else-at-end : goal.returns-else-at-end
+returns-else-at-end c = elim c.else-at-end.branch [ else-at-end-via-then-at-end+else-fits w ↦ search (rules, nothing_opened) | else-at-end-via-else-at-end w ↦ search (rules, open_none) ]
