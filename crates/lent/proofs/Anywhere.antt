@@ -5,8 +5,10 @@ use mathlib.Core.Bool.{Bool, true, false, cond}
 use mathlib.Core.Logic.{◌⊎◌, inl, inr, ⊎_elim}
 use mathlib.Core.List.{List, append_assoc}
 use native.Mathlib.Omega.{arith}
-use lib.ListN.{length, take, drop}
-use lib.Seq.{paste, drop-drop}
+use lib.ListN.{length, take, drop, get_or, replicate, length-take, length-replicate}
+use Rattle.std.proofs.lemmas.List.{get_or_past}
+use Rattle.std.specs.Int.{w64, from_be_bytes}
+use lib.Seq.{paste, drop-drop, get_or-take, get_or-drop}
 use lib.Dec.{leb}
 use borrow.Author.Tests.{le-leb, lt-leb, leb-true}
 use borrow.Rule.Slice.PartMut.{put_mid}
@@ -15,7 +17,7 @@ use Rattle.lent.specs.Parts.{part, patch}
 use Rattle.lent.specs.Total.{Framed, read, write, opened, closed}
 use Rattle.lent.proofs.Parts.{part-eq, part-part, length_part, length-patch, framed-patch, framed-same}
 use Rattle.lent.proofs.Turns.{part_none, patch-none}
-use Rattle.lent.proofs.Digits.{length-bytes, get-put}
+use Rattle.lent.proofs.Digits.{length-bytes, get-put, widened, be-lt}
 
 pub lt-or_ge : (a b : ℕ) → (a < b) ⊎ (b ≤ a)
 lt-or_ge a zero = inr zero-le
@@ -28,23 +30,28 @@ module _ (w p : ℕ) (s : List ℕ) where
   unfolding read
   read_in h = rw (le-leb (p + w) (length s) h)
 
-  pub read_out : length s < p + w → read w p s ≡ 0
-  unfolding read
-  read_out h = rw (lt-leb (p + w) (length s) h)
-
-  -- in the words of the code
   pub nothing_got : leb (p + w) (length s) ≡ false → 0 ≡ read w p s
   unfolding read
   nothing_got f = rw f
 
-  pub got : leb (p + w) (length s) ≡ true → be (take (p + w - p) (drop p s)) ≡ read w p s
-  unfolding read part
-  got f = let q : p + w - p ≡ w = omega arith in rw (f, q)
+  -- a part of s that the code puts behind zeros
+  part-bytes : ((i : ℕ) → get_or s i 0 < 256) → (i : ℕ) → get_or (part p w s) i 0 < 256
+  unfolding part
+  part-bytes o i =
+      ⊎_elim
+      (λ (h : i < w). rw (get_or-take, get_or-drop) (o (p + i)))
+      (λ (h : w ≤ i). rw (get_or_past (take w (drop p s)) i 0 (rw length-take (omega arith))) (omega arith))
+      (lt-or_ge i w)
 
-  pub length_got : leb (p + w) (length s) ≡ true → length (take (p + w - p) (drop p s)) ≡ w
-  length_got f =
+  pub got : w ≤ 8 → leb (p + w) (length s) ≡ true → ((i : ℕ) → get_or s i 0 < 256) → {v : List ℕ} → v ≡ take (p + w - p) (drop p s)
+      → {n : ℕ} → n ≡ from_be_bytes w64 (put_mid (8 - w) (8 - (8 - w)) (replicate 8 0) v) → (n ≡ read w p s) × (n < 256 ^ w)
+  got small f o {v} e {n} d =
+      let k : p + w ≤ length s = leb-true _ _ f in
       let q : p + w - p ≡ w = omega arith in
-      rw (q, ← part-eq p w s) (length_part p w s (leb-true _ _ f))
+      let a : v ≡ part p w s = rw (part-eq, ← q) e in
+      let l : length (part p w s) ≡ w = length_part p w s k in
+      let r : n ≡ be (part p w s) = d ∙ widened w v small (rw a l) ∙ ap be a in
+      (r ∙ sym (read_in k), rw r (rw l at (be-lt (part p w s) (part-bytes o))))
 
 -- the same from a part of c bytes
 pub from-part : (p c q w : ℕ) (s : List ℕ) → q + w ≤ c → p + c ≤ length s → read w q (take (p + c - p) (drop p s)) ≡ read w (p + q) s
@@ -82,9 +89,11 @@ pub part_written : (p k : ℕ) (v w s : List ℕ) → length v ≡ k → w ≡ v
 unfolding write patch
 part_written p k v w s l e f = let q : p + k - p ≡ k = omega arith in rw (q, e, l, f, drop-drop, append_assoc)
 
-pub nothing_written : (p k : ℕ) (v s : List ℕ) → length v ≡ k → leb (p + k) (length s) ≡ false → s ≡ write p v s
+pub nothing_written : (p : ℕ) (v s : List ℕ) → leb (p + length v) (length s) ≡ false → write p v s ≡ s
 unfolding write
-nothing_written p k v s l f = rw (l, f)
+nothing_written p v s f = rw f
+
+pub ruleset writes = (part_written, nothing_written, length-replicate)
 
 -- the moves, in the words of the code
 moved : (to from n : ℕ) (s : List ℕ) → from + n ≤ length s → paste s to (drop from s) n ≡ patch to (part from n s) s
@@ -131,6 +140,10 @@ module _ (at end by : ℕ) (s : List ℕ) where
   unfolding opened
   open_none h = rw (same (at + by) at h) (sym (either (leb (end + by) (length s)) s))
 
-  pub close-none : end < at → s ≡ closed at end by s
+  pub close_none : end < at → s ≡ closed at end by s
   unfolding closed
-  close-none h = rw (same at (at + by) h) (sym (either (leb (end + by) (length s)) s))
+  close_none h = rw (same at (at + by) h) (sym (either (leb (end + by) (length s)) s))
+
+pub ruleset openings = (open_moved, nothing_opened, open_none)
+
+pub ruleset closings = (close_moved, nothing_closed, close_none)

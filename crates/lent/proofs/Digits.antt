@@ -2,14 +2,15 @@
 use Prim.Native.Nat.{ℕ, zero, suc, ◌+◌, ◌-◌, ◌*◌, ◌/◌, ◌%◌, ◌^◌, ◌≤◌, ◌<◌}
 use mathlib.Core.Path.{◌≡◌, refl, sym, ap, ◌∙◌}
 use mathlib.Core.List.{List, [], ◌∷◌, ◌++◌, append_assoc, append-nil}
-use native.Mathlib.Nat.{add_assoc, add-zero, add-suc, add-mul, mul_assoc, pow-suc, pow-succ', pow-zero, pow-le-pow_right, div-one, div-div-eq-div-mul}
-use native.Mathlib.Numerals.{one-add, add-one}
-use Rattle.std.specs.Int.{bytes_high_first}
+use native.Mathlib.Nat.{add_assoc, add-zero, add-suc, add-mul, mul_assoc, pow-suc, pow-succ', pow-zero, div-one, div-div-eq-div-mul}
+use native.Mathlib.Numerals.{one-add}
+use Rattle.std.specs.Int.{w64, from_be_bytes, bytes_high_first}
 use native.Mathlib.Omega.{arith}
-use lib.ListN.{length, get_or, set, take, drop, length-append}
+use borrow.Rule.Slice.PartMut.{put_mid}
+use lib.ListN.{length, replicate, length-take, get_or, set, take, drop, length-append}
 use lib.Arith.{mod-mul, digits_lt, digits_div, digits_mod}
 use lib.Pow.{pow-add}
-use lib.Seq.{drop-cons, drop_at, take_all, take-suc}
+use lib.Seq.{drop-cons, drop-drop, drop_at, take_all}
 use Rattle.lent.specs.Numbers.{be, bytes}
 use Rattle.lent.specs.Parts.{part, patch}
 use Rattle.lent.proofs.Parts.{part-patch, patch-append, set-patch, length-patch}
@@ -92,18 +93,27 @@ bytes-be (x ∷ l) h =
     let m : (x * 256 ^ length l + be l) % 256 ^ length l ≡ be l = digits_mod x r in
     rw (← one-add, bytes_add, q, ← bytes_mod (length l) (x * 256 ^ length l + be l), m, bytes-be l (λ i. h (suc i)), bytes_one x (h 0))
 
--- one digit more, by Horner's rule, and how large a number is then
-pub be_more : (i : ℕ) (b : List ℕ) → i < length b → be (take (i + 1) b) ≡ be (take i b) * 256 + get_or b i 0
+-- the number of 8 bytes, as the library tells it, and of fewer with 0 before them
+be_eight : (l : List ℕ) → length l ≡ 8 → from_be_bytes w64 l ≡ be l
 unfolding be
-be_more i b h = rw (add-one, take-suc b i 0 h, be-append) (omega arith)
+be_eight (a ∷ b ∷ c ∷ d ∷ e ∷ f ∷ g ∷ h ∷ []) z = omega arith
+be_eight _ z = absurd (omega arith)
 
-pub digit_more : (i n d : ℕ) → n < 256 ^ i → d < 256 → n * 256 + d < 256 ^ (i + 1)
-digit_more i n d h k = rw (add-one, pow-suc) (omega arith)
+be-zeros : (k n : ℕ) (l : List ℕ) → be (take k (replicate n 0) ++ l) ≡ be l
+unfolding be
+be-zeros zero n l = refl
+be-zeros (suc k) zero l = refl
+be-zeros (suc k) (suc n) l = let e : be (take k (replicate n 0) ++ l) ≡ be l = be-zeros k n l in omega arith
 
-pub digit_fits : (i n d : ℕ) → n < 256 ^ i → d < 256 → i < 8 → n * 256 + d < 2 ^ 64
-digit_fits i n d h k b =
-    let m : 256 ^ (i + 1) ≤ 256 ^ 8 = pow-le-pow_right {n = 256} (omega arith) {i = i + 1} {j = 8} (omega arith) in
-    omega (arith, m, digit_more i n d h k)
+pub widened : (w : ℕ) (v : List ℕ) → w ≤ 8 → length v ≡ w → from_be_bytes w64 (put_mid (8 - w) (8 - (8 - w)) (replicate 8 0) v) ≡ be v
+widened w v h l =
+    let q : 8 - (8 - w) ≡ w = omega arith in
+    let a : 8 - w + w ≡ 8 = omega arith in
+    let z : List ℕ = replicate 8 0 in
+    let d : drop w (drop (8 - w) z) ≡ [] = rw (drop-drop, a) in
+    let m : length (take (8 - w) z) ≡ 8 - w = rw length-take (omega arith) in
+    let n : length (take (8 - w) z ++ v) ≡ 8 = rw (length-append, m, l) a in
+    rw (q, d, append-nil) (be_eight (take (8 - w) z ++ v) n ∙ be-zeros (8 - w) 8 v)
 
 -- the low bytes of a number, as the library tells them
 bytes-first : (k n : ℕ) → bytes (suc k) n ≡ n / 256 ^ k % 256 ∷ bytes k n

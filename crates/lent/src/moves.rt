@@ -10,6 +10,7 @@ pub(crate) fn fits(s: &[u8], at: usize, count: usize) -> bool
 }
 
 // Copies all of `bytes` to place `at` of s.
+#[tactic(auto, using(crate::proofs::Anywhere::writes))]
 pub fn copy_in(s: &mut [u8], at: usize, bytes: &[u8])
     ensures { s.new ≡ write at bytes.now s.old }
 {
@@ -19,6 +20,7 @@ pub fn copy_in(s: &mut [u8], at: usize, bytes: &[u8])
 }
 
 // Writes a byte `count` times from place `at` on.
+#[tactic(auto, using(crate::proofs::Anywhere::writes))]
 pub fn fill(s: &mut [u8], at: usize, count: usize, byte: u8)
     ensures { s.new ≡ write at (replicate count byte) s.old }
 {
@@ -28,6 +30,7 @@ pub fn fill(s: &mut [u8], at: usize, count: usize, byte: u8)
 }
 
 // Moves the bytes from `at` to `end` up by `by`. What the gap holds stays.
+#[tactic(auto, using(crate::proofs::Anywhere::openings))]
 pub fn open_gap(s: &mut [u8], at: usize, end: usize, by: usize)
     ensures { s.new ≡ opened at end by s.old }
 {
@@ -37,6 +40,7 @@ pub fn open_gap(s: &mut [u8], at: usize, end: usize, by: usize)
 }
 
 // Moves the bytes from `at + by` to `end + by` down by `by`.
+#[tactic(auto, using(crate::proofs::Anywhere::closings))]
 pub fn close_gap(s: &mut [u8], at: usize, end: usize, by: usize)
     ensures { s.new ≡ closed at end by s.old }
 {

@@ -1,22 +1,11 @@
-// Numbers of 2, 4 and 8 bytes, the high byte first. They are put together by Horner's rule, byte by byte, from a part of
-// the bytes whose length the compiler knows: of this form it makes one load.
-ghost use Rattle.std.specs.Prelude.{◌≡◌, ◌^◌, ◌<◌, ◌≤◌, length};
-ghost use Rattle.lent.specs.Numbers.{be, bytes};
+// Numbers of 2, 4 and 8 bytes, the high byte first.
+ghost use Rattle.std.specs.Prelude.{◌≡◌, ◌^◌, ◌<◌, ◌≤◌};
+ghost use Rattle.lent.specs.Numbers.{bytes};
 ghost use Rattle.lent.specs.Total.{read, write};
 
 use crate::moves::{copy_in, fits};
 
-fn of(b: &[u8]) -> u64
-    requires { length b.now ≤ 8 }
-    ensures { (result ≡ be b.now) × (result < 256 ^ length b.now) }
-{
-    let mut n = 0;
-    for byte in b {
-        n = n * 256 + u64::from(*byte);
-    }
-    n
-}
-
+// The number of N bytes: they are put behind zeros in an array of 8, of which the compiler makes one load.
 fn get<const N: usize>(s: &[u8], at: usize) -> u64
     requires { N ≤ 8 }
     ensures { (result ≡ read N at s.now) × (result < 256 ^ N) }
@@ -24,10 +13,13 @@ fn get<const N: usize>(s: &[u8], at: usize) -> u64
     if !fits(s, at, N) {
         return 0;
     }
-    of(&s[at..at + N])
+    let mut number = [0; 8];
+    number[8 - N..].copy_from_slice(&s[at..at + N]);
+    u64::from_be_bytes(number)
 }
 
 // The N low bytes of a number.
+#[tactic(auto, using(crate::proofs::Digits::low_bytes))]
 fn put<const N: usize>(s: &mut [u8], at: usize, n: u64)
     requires { N ≤ 8 }
     ensures { s.new ≡ write at (bytes N n) s.old }
