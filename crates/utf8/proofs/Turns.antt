@@ -1,13 +1,13 @@
 -- UTF-8: the rules of the two tables, each computed once over all entries; and texts of ASCII alone. Assumes nothing.
-use mathlib.Core.Path.{◌≡◌, refl}
-use mathlib.Core.Bool.{true, and-eq-true_iff}
+use mathlib.Core.Path.{◌≡◌, refl, sym}
+use mathlib.Core.Bool.{Bool, true, false, ◌&&◌, and_assoc, and-true, and-eq-true_iff}
 use mathlib.Core.List.{List, [], ◌∷◌, map}
-use Prim.Native.Nat.{ℕ, suc, ◌+◌, ◌*◌, ◌≤◌, ◌<◌}
+use Prim.Native.Nat.{ℕ, ◌+◌, ◌*◌, ◌≤◌, ◌<◌, max}
 use lib.Dec.{ltb, leb}
 use lib.ListN.{get_or}
 use native.Mathlib.Omega.{arith}
-use borrow.Author.Tests.{ltb-true, leb-true, lt-ltb, le-leb}
-use Rattle.std.specs.Str.{IsAscii}
+use borrow.Author.Tests.{ltb-false, le-ltb, ltb-true, leb-true, lt-ltb, le-leb}
+use Rattle.std.specs.List.{fold}
 use Rattle.utf8.specs.Utf8.{follow, is_utf8}
 use Rattle.utf8.specs.Classes.{ClassTable, StepTable, class_of, due, next_of, is_ascii}
 use Rattle.utf8.proofs.Rules.{count, agree, agree2}
@@ -40,7 +40,20 @@ module _ {classes steps : List ℕ} (k : ClassTable classes) (t : StepTable step
   pub entry_small : get_or steps (d * 12 + get_or classes b 0) 0 ≤ 8
   entry_small = rw (k.is b hb) (t.small d b hd hb)
 
--- texts of ASCII alone are UTF-8
+-- texts of ASCII alone: the greatest octet tells
+ltb-max : (a b : ℕ) → ltb (max a b) 0x80 ≡ (ltb a 0x80 && ltb b 0x80)
+ltb-max a b = by (ltb a 0x80) (ltb b 0x80) refl refl
+  where
+    by : (x y : Bool) → ltb a 0x80 ≡ x → ltb b 0x80 ≡ y → ltb (max a b) 0x80 ≡ (x && y)
+    by true true p q = lt-ltb (max a b) 0x80 (omega (arith, ltb-true a 0x80 p, ltb-true b 0x80 q))
+    by true false p q = le-ltb (max a b) 0x80 (omega (arith, ltb-false b 0x80 q))
+    by false y p q = le-ltb (max a b) 0x80 (omega (arith, ltb-false a 0x80 p))
+
+pub greatest : (top : ℕ) (s : List ℕ) → ltb (fold (λ (a b : ℕ). max a b) top s) 0x80 ≡ (ltb top 0x80 && is_ascii s)
+greatest top [] = sym (and-true (ltb top 0x80))
+greatest top (b ∷ s) = rw (greatest (max top b) s, ltb-max top b, and_assoc)
+
+-- and they are UTF-8
 pub ascii_utf8 : (s : List ℕ) → is_ascii s ≡ true → is_utf8 s ≡ true
 ascii_utf8 [] e = refl
 ascii_utf8 (b ∷ s) e =
@@ -48,11 +61,3 @@ ascii_utf8 (b ∷ s) e =
     let l : leb b 0x7F ≡ true = le-leb b 0x7F (omega (arith, ltb-true b 0x80 p.0)) in
     let z : leb 0 b ≡ true = le-leb 0 b (omega arith) in
     rw (z, l) (ascii_utf8 s p.1)
-
--- in the library's words
-is-ascii : (s : List ℕ) → IsAscii s → is_ascii s ≡ true
-is-ascii [] h = refl
-is-ascii (b ∷ s) h = rw (lt-ltb b 0x80 (h 0), is-ascii s (λ i. h (suc i)))
-
-pub ascii_seen : (s : List ℕ) → IsAscii s → is_utf8 s ≡ true
-ascii_seen s h = ascii_utf8 s (is-ascii s h)
