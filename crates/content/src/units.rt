@@ -39,7 +39,8 @@ fn value_is_sound(s: &[u8], at: usize, left: usize) -> bool
     lent::get32(unit, 4) == 0 && lent::get64(unit, 8) == 0 && is_upward(s, at, left)
 }
 
-// The units of values: behind each value all is 0, and they ascend.
+// The units of values: behind each value all is 0, and they ascend. The place goes up by 16 while what is left goes down by 1,
+// so the range counts one of them, and the place is a variable: told from what is left it would be no plainer.
 #[tactic(auto, using(crate::proofs::UnitLaws::values))]
 fn values_are_sound(s: &[u8], at: usize, own: usize) -> bool
     requires { at + own * 16 ≤ length s.now }
