@@ -1,19 +1,23 @@
 -- Reads, writes and moves at any place: in range they are those of `part` and `patch`, out of range they do nothing. Assumes nothing.
-use Prim.Native.Nat.{ℕ, zero, suc, ◌+◌, ◌-◌, ◌/◌, ◌%◌, ◌^◌, ◌≤◌, ◌<◌, zero-le, suc-le-suc}
+use Prim.Native.Nat.{ℕ, zero, suc, ◌+◌, ◌-◌, ◌^◌, ◌≤◌, ◌<◌, zero-le, suc-le-suc}
 use mathlib.Core.Path.{◌≡◌, refl, sym, ap, ◌∙◌}
 use mathlib.Core.Bool.{Bool, true, false, cond}
 use mathlib.Core.Logic.{◌⊎◌, inl, inr, ⊎_elim}
-use mathlib.Core.List.{List}
+use mathlib.Core.List.{List, append_assoc}
 use native.Mathlib.Omega.{arith}
-use lib.ListN.{length, take, drop, set, replicate, length-replicate}
+use lib.ListN.{length, take, drop, get_or, replicate, length-take, length-replicate}
+use Rattle.std.proofs.lemmas.List.{get_or_past}
+use Rattle.std.specs.Int.{w64, from_be_bytes}
+use lib.Seq.{paste, drop-drop, get_or-take, get_or-drop}
 use lib.Dec.{leb}
-use borrow.Author.Tests.{le-leb, lt-leb}
+use borrow.Author.Tests.{le-leb, lt-leb, leb-true}
+use borrow.Rule.Slice.PartMut.{put_mid}
 use Rattle.lent.specs.Numbers.{be, bytes}
 use Rattle.lent.specs.Parts.{part, patch}
 use Rattle.lent.specs.Total.{Framed, read, write, opened, closed}
 use Rattle.lent.proofs.Parts.{part-eq, part-part, length_part, length-patch, framed-patch, framed-same}
 use Rattle.lent.proofs.Turns.{part_none, patch-none}
-use Rattle.lent.proofs.Digits.{length-bytes, bytes_mod, set_pair, get-put, put_halves}
+use Rattle.lent.proofs.Digits.{length-bytes, get-put, widened, be-lt}
 
 pub lt-or_ge : (a b : ℕ) → (a < b) ⊎ (b ≤ a)
 lt-or_ge a zero = inr zero-le
@@ -26,21 +30,28 @@ module _ (w p : ℕ) (s : List ℕ) where
   unfolding read
   read_in h = rw (le-leb (p + w) (length s) h)
 
-  pub read_out : length s < p + w → read w p s ≡ 0
+  pub nothing_got : leb (p + w) (length s) ≡ false → 0 ≡ read w p s
   unfolding read
-  read_out h = rw (lt-leb (p + w) (length s) h)
+  nothing_got f = rw f
 
-  pub got : w ≤ length s → p ≤ length s - w → {r : ℕ} → r ≡ be (take (p + w - p) (drop p s)) → r ≡ read w p s
+  -- a part of s that the code puts behind zeros
+  part-bytes : ((i : ℕ) → get_or s i 0 < 256) → (i : ℕ) → get_or (part p w s) i 0 < 256
   unfolding part
-  got h k e =
+  part-bytes o i =
+      ⊎_elim
+      (λ (h : i < w). rw (get_or-take, get_or-drop) (o (p + i)))
+      (λ (h : w ≤ i). rw (get_or_past (take w (drop p s)) i 0 (rw length-take (omega arith))) (omega arith))
+      (lt-or_ge i w)
+
+  pub got : w ≤ 8 → leb (p + w) (length s) ≡ true → ((i : ℕ) → get_or s i 0 < 256) → {v : List ℕ} → v ≡ take (p + w - p) (drop p s)
+      → {n : ℕ} → n ≡ from_be_bytes w64 (put_mid (8 - w) (8 - (8 - w)) (replicate 8 0) v) → (n ≡ read w p s) × (n < 256 ^ w)
+  got small f o {v} e {n} d =
+      let k : p + w ≤ length s = leb-true _ _ f in
       let q : p + w - p ≡ w = omega arith in
-      rw q at e ∙ sym (read_in (omega arith))
-
-  pub got_short : length s < w → 0 ≡ read w p s
-  got_short h = sym (read_out (omega arith))
-
-  pub got_far : length s - w < p → 0 ≡ read w p s
-  got_far h = sym (read_out (omega arith))
+      let a : v ≡ part p w s = rw (part-eq, ← q) e in
+      let l : length (part p w s) ≡ w = length_part p w s k in
+      let r : n ≡ be (part p w s) = d ∙ widened w v small (rw a l) ∙ ap be a in
+      (r ∙ sym (read_in k), rw r (rw l at (be-lt (part p w s) (part-bytes o))))
 
 -- the same from a part of c bytes
 pub from-part : (p c q w : ℕ) (s : List ℕ) → q + w ≤ c → p + c ≤ length s → read w q (take (p + c - p) (drop p s)) ≡ read w (p + q) s
@@ -73,101 +84,66 @@ read-write w p x s h k =
     let l : p + w ≤ length (write p (bytes w x) s) = rw (write_in p (bytes w x) s i, length-patch p (bytes w x) s i) h in
     rw (read_in w p (write p (bytes w x) s) l, write_in p (bytes w x) s i) (get-put w p x s h k)
 
--- the writes of numbers, in the words of the code
-pub put_short : (w p x : ℕ) (s : List ℕ) → length s < w → s ≡ write p (bytes w x) s
-put_short w p x s h = sym (write_out p (bytes w x) s (rw length-bytes (omega arith)))
+-- a part of s that the code fills with v
+pub part_written : (p k : ℕ) (v w s : List ℕ) → length v ≡ k → w ≡ v → leb (p + k) (length s) ≡ true → put_mid p (p + k - p) s w ≡ write p v s
+unfolding write patch
+part_written p k v w s l e f = let q : p + k - p ≡ k = omega arith in rw (q, e, l, f, drop-drop, append_assoc)
 
-pub put_far : (w p x : ℕ) (s : List ℕ) → length s - w < p → s ≡ write p (bytes w x) s
-put_far w p x s h = sym (write_out p (bytes w x) s (rw length-bytes (omega arith)))
+pub nothing_written : (p : ℕ) (v s : List ℕ) → leb (p + length v) (length s) ≡ false → write p v s ≡ s
+unfolding write
+nothing_written p v s f = rw f
 
-pub put_two : (p x : ℕ) (s : List ℕ) → 2 ≤ length s → p ≤ length s - 2 → set (set s p (x / 256 % 256)) (p + 1) (x % 256) ≡ write p (bytes 2 x) s
-unfolding bytes
-put_two p x s h k = rw (write_in p (bytes 2 x) s (rw length-bytes (omega arith))) (set_pair p (x / 256 % 256) (x % 256) s (omega arith))
-
-pub put_both : (a b p x : ℕ) (s t u : List ℕ) → a + b ≤ length s → p ≤ length s - (a + b)
-    → t ≡ write p (bytes a (x / 256 ^ b)) s → u ≡ write (p + a) (bytes b x) t → u ≡ write p (bytes (a + b) x) s
-put_both a b p x s t u h k d e =
-    let f : p + length (bytes a (x / 256 ^ b)) ≤ length s = rw length-bytes (omega arith) in
-    let d' : t ≡ patch p (bytes a (x / 256 ^ b)) s = d ∙ write_in p (bytes a (x / 256 ^ b)) s f in
-    let l : length t ≡ length s = rw d' (length-patch p (bytes a (x / 256 ^ b)) s f) in
-    let e' : u ≡ patch (p + a) (bytes b x) t = e ∙ write_in (p + a) (bytes b x) t (rw (length-bytes, l) (omega arith)) in
-    rw (write_in p (bytes (a + b) x) s (rw length-bytes (omega arith)))
-    (put_halves a b p x s t u (omega arith) d' (rw bytes_mod e'))
+pub ruleset writes = (part_written, nothing_written, length-replicate)
 
 -- the moves, in the words of the code
-module _ (p : ℕ) (v s : List ℕ) where
-  pub copy_short : length s < length v → s ≡ write p v s
-  copy_short h = sym (write_out p v s (omega arith))
-
-  pub copy_far : length s - length v < p → s ≡ write p v s
-  copy_far h = sym (write_out p v s (omega arith))
-
-  pub copied : length v ≤ length s → p ≤ length s - length v → {t : List ℕ} → t ≡ patch p v s → t ≡ write p v s
-  copied h k e = e ∙ sym (write_in p v s (omega arith))
+moved : (to from n : ℕ) (s : List ℕ) → from + n ≤ length s → paste s to (drop from s) n ≡ patch to (part from n s) s
+unfolding patch
+moved to from n s h = rw (length_part from n s h, part-eq)
 
 either : {A : Type 0} (t : Bool) (a : A) → cond t a a ≡ a
 either true a = refl
 either false a = refl
 
 module _ (at end by : ℕ) (s : List ℕ) where
-  pub open_short : length s < by → s ≡ opened at end by s
-  unfolding opened
-  open_short h = rw (lt-leb (end + by) (length s) (omega arith))
-
-  pub open_far : length s - by < end → s ≡ opened at end by s
-  unfolding opened
-  open_far h = rw (lt-leb (end + by) (length s) (omega arith))
-
   pub open_in : end + by ≤ length s → opened at end by s ≡ patch (at + by) (part at (end - at) s) s
   unfolding opened
   open_in h = rw (le-leb (end + by) (length s) h)
-
-  pub close_short : length s < by → s ≡ closed at end by s
-  unfolding closed
-  close_short h = rw (lt-leb (end + by) (length s) (omega arith))
-
-  pub close_far : length s - by < end → s ≡ closed at end by s
-  unfolding closed
-  close_far h = rw (lt-leb (end + by) (length s) (omega arith))
 
   pub close_in : end + by ≤ length s → closed at end by s ≡ patch at (part (at + by) (end - at) s) s
   unfolding closed
   close_in h = rw (le-leb (end + by) (length s) h)
 
+  pub open_moved : at ≤ end → leb (end + by) (length s) ≡ true → paste s (at + by) (drop at s) (end - at) ≡ opened at end by s
+  open_moved h f =
+      let k : end + by ≤ length s = leb-true _ _ f in
+      rw open_in (moved (at + by) at (end - at) s (omega arith))
+
+  pub close_moved : at ≤ end → leb (end + by) (length s) ≡ true → paste s at (drop (at + by) s) (end + by - (at + by)) ≡ closed at end by s
+  close_moved h f =
+      let k : end + by ≤ length s = leb-true _ _ f in
+      let e : end + by - (at + by) ≡ end - at = omega arith in
+      rw (close_in, e) (moved at (at + by) (end - at) s (omega arith))
+
+  pub nothing_opened : leb (end + by) (length s) ≡ false → s ≡ opened at end by s
+  unfolding opened
+  nothing_opened f = rw f
+
+  pub nothing_closed : leb (end + by) (length s) ≡ false → s ≡ closed at end by s
+  unfolding closed
+  nothing_closed f = rw f
+
   -- nothing to move
+  same : (p f : ℕ) → end < at → patch p (part f (end - at) s) s ≡ s
+  same p f h = let z : end - at ≡ 0 = omega arith in rw (z, part_none, patch-none)
+
   pub open_none : end < at → s ≡ opened at end by s
   unfolding opened
-  open_none h =
-      let z : end - at ≡ 0 = omega arith in
-      let same : patch (at + by) (part at (end - at) s) s ≡ s = rw (z, part_none, patch-none) in
-      rw same (sym (either (leb (end + by) (length s)) s))
+  open_none h = rw (same (at + by) at h) (sym (either (leb (end + by) (length s)) s))
 
-  pub close-none : end < at → s ≡ closed at end by s
+  pub close_none : end < at → s ≡ closed at end by s
   unfolding closed
-  close-none h =
-      let z : end - at ≡ 0 = omega arith in
-      let same : patch at (part (at + by) (end - at) s) s ≡ s = rw (z, part_none, patch-none) in
-      rw same (sym (either (leb (end + by) (length s)) s))
+  close_none h = rw (same at (at + by) h) (sym (either (leb (end + by) (length s)) s))
 
-  -- after the last turn
-  pub open_end : by ≤ length s → end ≤ length s - by → {i : ℕ} {t : List ℕ} → at ≤ i → i ≤ at → t ≡ patch (i + by) (part i (end - i) s) s → t ≡ opened at end by s
-  open_end h k {i} j l e =
-      let z : i ≡ at = omega arith in
-      rw (open_in (omega arith), ← z) e
+pub ruleset openings = (open_moved, nothing_opened, open_none)
 
-  pub close_end : by ≤ length s → end ≤ length s - by → {i : ℕ} {t : List ℕ} → i ≤ end → end ≤ i → t ≡ patch at (part (at + by) (i - at) s) s → t ≡ closed at end by s
-  close_end h k {i} j l e =
-      let z : i ≡ end = omega arith in
-      rw (close_in (omega arith), ← z) e
-
--- fill
-pub fill_done : (at count i b : ℕ) (s₀ s : List ℕ) → at + count ≤ length s₀ → i ≤ count → count ≤ i → s ≡ patch at (replicate i b) s₀ → s ≡ write at (replicate count b) s₀
-fill_done at count i b s₀ s h p q e =
-    let z : i ≡ count = omega arith in
-    (rw z at e) ∙ sym (write_in at (replicate count b) s₀ (rw length-replicate h))
-
-pub fill_short : (at count b : ℕ) (s : List ℕ) → length s < count → s ≡ write at (replicate count b) s
-fill_short at count b s h = sym (write_out at (replicate count b) s (rw length-replicate (omega arith)))
-
-pub fill_far : (at count b : ℕ) (s : List ℕ) → length s - count < at → s ≡ write at (replicate count b) s
-fill_far at count b s h = sym (write_out at (replicate count b) s (rw length-replicate (omega arith)))
+pub ruleset closings = (close_moved, nothing_closed, close_none)

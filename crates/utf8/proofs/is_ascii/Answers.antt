@@ -1,15 +1,15 @@
 -- `utf8::is_ascii` meets its contract. Assumes nothing.
-use borrow.Author.Rules.{rules}
-use mathlib.Core.Path.{refl}
-use Rattle.utf8.proofs.Turns.{ascii_next, ascii_end}
+use Rattle.std.proofs.Common.{rules, ◌≡◌, ◌∙◌, ap, ℕ, max, ltb}
+use borrow.Author.Tests.{tests}
+use Rattle.std.specs.List.{fold}
+use Rattle.std.proofs.lemmas.Iterator.{YieldsList-from_slice}
+use Rattle.std.proofs.lemmas.Iterator.Consumers.{fold_from_yields_List}
+use Rattle.utf8.proofs.Turns.{greatest}
 use Rattle.utf8.proofs.is_ascii.Goals as goal
 
-pub loop-i-init : goal.loop-i-init
-loop-i-init c = refl
-
-pub loop-i-preserved : goal.loop-i-preserved
-loop-i-preserved c =
-    rw c.larger-top.ensures (ascii_next c.args.text.now c.loop-i.i c.loop-i.top c.loop-i-test.true c.loop-i.invariant)
-
 pub returns : goal.returns
-returns c = search (rules, ascii_end)
+returns c =
+    let text = c.args.text.now in
+    let top : c.fold.result ≡ fold (λ (a b : ℕ). max a b) 0 text =
+    fold_from_yields_List _ (λ (a b : ℕ). max a b) 0 c.fold.result c.fold.ensures.ran (YieldsList-from_slice text cc) (λ a x b q k. search (rules, tests)) in
+    ap (λ (n : ℕ). ltb n 0x80) top ∙ greatest 0 text

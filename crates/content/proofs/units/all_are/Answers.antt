@@ -1,17 +1,13 @@
 -- `content::units::all_are` meets its contract. Assumes nothing.
-use borrow.Author.Rules.{rules}
-use mathlib.Core.Path.{refl}
-use Rattle.content.proofs.UnitLaws.{every_stop, every_next, every_end}
+use Rattle.std.proofs.Common.{rules, ◌∙◌, ◌==◌, ◌-◌, ℕ, take, drop}
+use borrow.Author.Tests.{tests}
+use Rattle.std.proofs.lemmas.Iterator.{YieldsList-from_slice}
+use Rattle.std.proofs.lemmas.Iterator.Search.{all_from_yields_List}
+use Rattle.content.proofs.UnitLaws.{every_part}
 use Rattle.content.proofs.units.all_are.Goals as goal
 
-pub loop-i-init : goal.loop-i-init
-loop-i-init c = refl
-
-pub returns-then-s-i : goal.returns-then-s-i
-returns-then-s-i c = search (rules, every_stop)
-
-pub loop-i-preserved : goal.loop-i-preserved
-loop-i-preserved c = search (rules, every_next)
-
-pub returns : goal.returns
-returns c = search (rules, every_end)
+pub returns-else-to-from : goal.returns-else-to-from
+returns-else-to-from c =
+    let a = c.args in
+    all_from_yields_List (λ (x : ℕ). x == a.byte) _ _ c.all.result c.all.ensures.ran (YieldsList-from_slice (take (a.to - a.from) (drop a.from a.s.now)) cc) (λ x b q k. search (rules, tests))
+    ∙ every_part a.byte a.from a.to a.s.now

@@ -7,6 +7,3 @@ use Rattle.content.proofs.units.values_are_sound.Given as goal
 
 abbrev pub invariant-loop-left : goal.invariant-loop-left
 invariant-loop-left l = (values_fine l.left (drop l.p l.s) ≡ values_fine l.own (drop l.at l.s)) × (l.p + l.left * 16 ≡ l.at + l.own * 16)
-
-abbrev pub decreases-loop-left : goal.decreases-loop-left
-decreases-loop-left l = l.left
