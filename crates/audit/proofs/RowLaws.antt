@@ -213,15 +213,6 @@ module _ (k : Kind) (base : ℕ) (s : List ℕ) (d i n : ℕ) {w : Bool} (ew : w
     unfolding row_fine
     row_last x ep = rw (sym ew ∙ not-false w hw, sym ev ∙ not-false v x) ep
 
--- the cells of a level
-module _ (l : Level) {p : Bool} (ep : p ≡ is_only 43 l) where
-  pub cells-plus : p ≡ true → 0 ≡ level_cells l
-  cells-plus h = rw (sym ep ∙ h)
-
-  module _ (hp : p ≡ false) {q : Bool} (eq : q ≡ is_only 35 l) where
-    pub cells-hash : q ≡ true → 0 ≡ level_cells l
-    cells-hash h = rw (sym ep ∙ hp, sym eq ∙ h)
-
 -- what a node takes
 module _ (a : Left) (l : Level) (own : ℕ) where
   pub take_nodes : a.nodes < 1 → None ≡ taken a l own

@@ -36,14 +36,12 @@ fn write_text(out: &mut [u8], at: usize, name: &[u8], marks: &[u8], depth: usize
     requires { (depth ≤ 128) × (length marks.now ≡ 128) × (depth ≤ length (split name.now)) × (at + width (path_at marks.now depth name.now) + 1 ≤ length out.old) }
     ensures { out.new ≡ patch at (whole_text (path_at marks.now depth name.now)) out.old }
 {
-    let mut j: usize = 0;
     let mut from: usize = 0;
     let mut next = at;
-    while j < depth {
+    for mark in &marks[..depth] {
         let stop = walk::level_stop(name, from);
-        next = write_level(out, next, &name[from..stop], marks[j]);
+        next = write_level(out, next, &name[from..stop], *mark);
         from = stop + 1;
-        j += 1;
     }
     out[next] = b'#';
 }
@@ -63,11 +61,9 @@ fn write_units(out: &mut [u8], at: usize, s: &[u8], base: usize, values: usize, 
     requires { (unit_at base (values + n) ≤ length s.now) × (at + 4 * n ≤ length out.old) }
     ensures { out.new ≡ patch at (each (bytes 4) (unit_values base s.now values n)) out.old }
 {
-    let mut j: usize = 0;
-    while j < n {
+    for j in 0..n {
         let value = lent::get32(s, base + (values + j) * 16);
         lent::put32(out, at + 4 * j, value);
-        j += 1;
     }
 }
 

@@ -27,11 +27,9 @@ fn write_text(out: &mut [u8], at: usize, path: &[usize; 128], s: &[u8], ask: Ask
 {
     let base = ask.base;
     let n = ask.n;
-    let mut j: usize = 0;
     let mut next = at;
-    while j < depth {
-        next = write_level(out, next, forest::level_at(s, base, path[j], n));
-        j += 1;
+    for node in &path[..depth] {
+        next = write_level(out, next, forest::level_at(s, base, *node, n));
     }
 }
 

@@ -22,12 +22,6 @@ use Rattle.region.specs.Opening.{needed_of, open_rules, nothing}
 pub up_some : (most n : ℕ) → 0 < n → leb n most ≡ up_to most n
 up_some most n h = rw (lt-ltb 0 n h)
 
-pub up_none : (most n : ℕ) → n ≤ 0 → false ≡ up_to most n
-up_none most n h = rw (le-ltb 0 n h)
-
--- the answers of `in_range`, from its tests in their order
-module _ (r : Room) {a : Bool} (ea : a ≡ up_to 4096 r.nodes) where
-  module _ (ha : a ≡ true) {b : Bool} (eb : b ≡ up_to 8192 r.pairs) where
 -- what fits in range
 pub few_units : (r : Room) → in_range r ≡ true → r.nodes + r.pairs + r.cells ≤ 20480
 few_units r h = let i = in-range r h in omega (arith, i.nodes.1, i.pairs.1, i.cells.1)
@@ -36,8 +30,6 @@ few_units r h = let i = in-range r h in omega (arith, i.nodes.1, i.pairs.1, i.ce
 pub needed_units : (r : Room) → needed_bytes r ≡ 64 + 17 * unit_room r
 needed_units r = omega arith
 
--- the answers of `needed`
-module _ (r : Room) {t : Bool} (et : t ≡ in_range r) where
 -- the header of a store that holds nothing, byte by byte
 pub header_is : (r : Room) (kind : ℕ) {k a b c d e f : ℕ} → k ≡ kind
     → a ≡ r.nodes / 256 % 256 → b ≡ r.nodes % 256 → c ≡ r.pairs / 256 % 256 → d ≡ r.pairs % 256 → e ≡ r.cells / 256 % 256 → f ≡ r.cells % 256
@@ -57,9 +49,6 @@ not-false false e = absurd (true≢false e)
 -- the answers of `open`
 module _ (r : Room) (s : List ℕ) {t : Bool} (et : t ≡ in_range r) where
   module _ (h : not t ≡ false) {n : ℕ} (en : n ≡ needed_bytes r) where
-    pub open_short : length s < n → Err BadSize ≡ checked (open_rules r s)
-    open_short l = rw (ap not (sym et) ∙ h, lt-ltb (length s) (needed_bytes r) (rw (← en) l))
-
     pub open_written : n ≤ length s → (kind : ℕ) {b u : List ℕ} → b ≡ header_bytes kind r nothing → u ≡ write 0 b s → u ≡ patch 0 (header_bytes kind r nothing) s
     open_written l kind eb e =
         e ∙ ap (λ (x : List ℕ). write 0 x s) eb

@@ -26,10 +26,8 @@ pub fn move_below(
     requires { (count ≤ 128) × (unit_at base n ≤ length s.old) × Under n (take count nodes) × (more < 4294967296) }
     ensures { s.new ≡ belows more less base (take count nodes) s.old }
 {
-    let mut j = 0;
-    while j < count {
+    for j in 0..count {
         let i = nodes[j];
         move_one(s, base, i, n, more, less);
-        j += 1;
     }
 }

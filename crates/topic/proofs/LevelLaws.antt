@@ -24,16 +24,6 @@ module _ (s : List ℕ) {u : Bool} (eu : u ≡ is_utf8 s) where
   pub parse_broken : not u ≡ true → Err NotUtf8 ≡ parsed s
   parse_broken h = rw (ap not (sym eu) ∙ h)
 
-  module _ (h : not u ≡ false) {k : Result ⊤ Refusal} (ek : k ≡ checked (level_rules s)) where
-    is-parsed : parsed s ≡ and_then k (Ok (length (split s)))
-    is-parsed = rw (ek, ap not (sym eu) ∙ h)
-
-    pub parse_refused : {r : Refusal} → k ≡ Err r → Err r ≡ parsed s
-    parse_refused q = rw (is-parsed, q)
-
-    pub parse_fine : k ≡ Ok tt → {n : ℕ} → n ≡ length (split s) → Ok n ≡ parsed s
-    parse_fine q e = rw (is-parsed, q, e)
-
 -- a text that parses has as many levels as the parse says
 levels-told : (k : Result ⊤ Refusal) (m n : ℕ) → and_then k (Ok m) ≡ Ok n → n ≡ m
 levels-told (Ok _) m n e = cc

@@ -21,15 +21,6 @@ module _ (f n : List ℕ) (i j : ℕ) {all : Bool} (turn : takes (levels_at f i)
       no-hash : is_only 35 (first (drop i f)) ≡ false
       no-hash = ap (is_only 35) (sym ef) ∙ sym e ∙ t
 
--- the filter's levels are used up: the name's must be too
-takes_nil : (f n : List ℕ) (i j : ℕ) → length f < i → (b : Bool) → b ≡ ltb (length n) j → takes (levels_at f i) (levels_at n j) ≡ b
-takes_nil f n i j hi true e =
-    let h : length n < j = ltb-true (length n) j (sym e) in
-    rw (levels-none f i hi, levels-none n j h)
-takes_nil f n i j hi false e =
-    let h : j ≤ length n = ltb-false (length n) j (sym e) in
-    rw (levels-none f i hi, levels_cons n j h)
-
 -- the '$' rule looks at the first levels
 pub lead-wild_at : (s : List ℕ) → lead_wild (split s) ≡ (is_only 43 (first s) || is_only 35 (first s))
 lead-wild_at s = rw (split_cons s)

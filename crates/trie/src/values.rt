@@ -13,8 +13,7 @@ pub fn find_value(s: &[u8], base: usize, i: usize, own: usize, value: u32) -> Sp
     ensures { (result ≡ spot_from 0 value (values_from base s.now i own)) × (result.at ≤ own) }
 {
     let wanted = value as u64;
-    let mut k = 0;
-    while k < own {
+    for k in 0..own {
         let v = lent::get32(s, base + (i + k) * 16);
         if wanted < v {
             return Spot { at: k, held: false };
@@ -22,9 +21,11 @@ pub fn find_value(s: &[u8], base: usize, i: usize, own: usize, value: u32) -> Sp
         if wanted <= v {
             return Spot { at: k, held: true };
         }
-        k += 1;
     }
-    Spot { at: k, held: false }
+    Spot {
+        at: own,
+        held: false,
+    }
 }
 
 fn byte(n: u32) -> u8

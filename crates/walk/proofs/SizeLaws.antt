@@ -36,8 +36,6 @@ sized_both a b c d x y z p q =
       records_are = λ h. let e = p.records_are (omega (arith, h)) in q.records_are (omega (arith, h, e)) ∙ omega (arith, e);
     }
 
--- a record
-module _ (m : Measured) (v e text n : ℕ) (count : n ≡ min (e - v) 65535) where
 pub hash_some : (b : Measured) (nd : Node) (size : ℕ) {n : Option Node} {m : Measured} → n ≡ Some nd → RecordSized b nd.values nd.end (size + 1) m → HashSized b n size m
 hash_some b nd size {n} {m} is r =
     record {

@@ -5,6 +5,3 @@ use Rattle.listing.proofs.records.write_units.Given as goal
 
 abbrev pub invariant-loop-j : goal.invariant-loop-j
 invariant-loop-j l = ValuesSoFar l.base l.s l.values l.n l.at l.initial.out l.out l.j
-
-abbrev pub decreases-loop-j : goal.decreases-loop-j
-decreases-loop-j l = l.n - l.j

@@ -5,6 +5,3 @@ use Rattle.room.proofs.below.move_below.Given as goal
 
 abbrev pub invariant-loop-j : goal.invariant-loop-j
 invariant-loop-j l = BelowLeft l.more l.less l.base l.nodes l.count l.initial.s l.j l.s
-
-abbrev pub decreases-loop-j : goal.decreases-loop-j
-decreases-loop-j l = l.count - l.j

@@ -5,6 +5,3 @@ use Rattle.trie.proofs.values.find_value.Given as goal
 
 abbrev pub invariant-loop-k : goal.invariant-loop-k
 invariant-loop-k l = SpotLeft l.base l.s l.i l.own l.value l.k
-
-abbrev pub decreases-loop-k : goal.decreases-loop-k
-decreases-loop-k l = l.own - l.k
