@@ -15,8 +15,8 @@ fn is_number(digits: &[u8]) -> bool
     }
 }
 
-// The number that digits stand for; None where they stand for none, or for one that the type does not have. What is read is what
-// `parse` makes of the digits, which takes a sign and zeros in front as well.
+// The number that digits stand for; None where they stand for none, or for one that the type does not have. `parse` alone would
+// take a sign too, and any zeros in front.
 pub fn number_of<N: FromStr>(digits: &[u8]) -> Option<N>
 where
     N::Err: Drop,

@@ -22,7 +22,9 @@ pub fn say_number<W: Write>(output: &mut W, n: u64) -> io::Result<()>
 }
 
 // The answer to a line that the program does not take.
-pub fn bad_line<W: Write>(output: &mut W) -> io::Result<()> {
+pub fn bad_line<W: Write>(output: &mut W) -> io::Result<()>
+    ensures { OnOk result (Appends (W.contents output.old) (W.contents output.new) (codes "bad line\n")) }
+{
     writeln!(output, "bad line")
 }
 
@@ -40,7 +42,10 @@ impl fmt::Display for Shown {
     }
 }
 
-pub fn say_refusal<W: Write>(output: &mut W, refusal: Refusal) -> io::Result<()> {
+pub fn say_refusal<W: Write>(output: &mut W, refusal: Refusal) -> io::Result<()>
+    ensures { OnOk result (Appends (W.contents output.old) (W.contents output.new)
+        (codes "refused " ++ decimal (told refusal).number ++ codes " at " ++ decimal (told refusal).place ++ codes "\n")) }
+{
     let shown = Shown(refusal);
     writeln!(output, "{shown}")
 }
