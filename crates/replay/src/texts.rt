@@ -11,7 +11,7 @@ use std::io::Write;
 pub fn parse<W: Write>(output: &mut W, text: &[u8]) -> io::Result<()> {
     match parsed(topic::parse(text)) {
         Ok(count) => writeln!(output, "levels {count}"),
-        Err(Refusal::BadLevel { place }) => say_refusal(output, Refusal::BadLevel { place }),
+        Err(refusal @ Refusal::BadLevel { place: _ }) => say_refusal(output, refusal),
         Err(refusal) => {
             let number = refusal::number(refusal);
             writeln!(output, "refused {number}")
