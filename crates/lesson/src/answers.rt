@@ -1,70 +1,62 @@
 // The answer to a line.
-use crate::{Command, words};
+use crate::words;
+use crate::words::Command;
 use edit::{Changed, Listed};
-use program::{bad_line, say, say_listing, say_number};
+use program::{bad_line, say_listing};
 use refusal::Refusal;
 use std::io;
 use std::io::Write;
 
+// The course shows a refusal by its number alone.
 fn say_refusal<W: Write>(output: &mut W, refusal: Refusal) -> io::Result<()> {
-    say(output, b"refused ")?;
-    say_number(output, refusal::number(refusal))?;
-    say(output, b"\n")
+    let number = refusal::number(refusal);
+    writeln!(output, "refused {number}")
 }
 
 // `yes` where something changed, else `no`.
-fn say_changed<W: Write>(
-    output: &mut W,
-    changed: Changed,
-    yes: &[u8],
-    no: &[u8],
-) -> io::Result<()> {
+fn say_changed<W: Write>(output: &mut W, changed: Changed, yes: &str, no: &str) -> io::Result<()> {
     match changed {
-        Changed::Done(answer) => {
-            if answer == 1 {
-                return say(output, yes);
-            }
-            return say(output, no);
-        }
+        Changed::Done(1) => writeln!(output, "{yes}"),
+        Changed::Done(_) => writeln!(output, "{no}"),
         Changed::Refused(refusal) => say_refusal(output, refusal),
     }
 }
 
-fn sub<W: Write>(output: &mut W, store: &mut [u8], filter: &[u8], value: u32) -> io::Result<()> {
-    say_changed(
-        output,
-        trie::insert(store, filter, value),
-        b"added\n",
-        b"there\n",
-    )
+// Where the answers go, the store, and the room for the records that reach a name. A store for 512 nodes, pairs and cells needs
+// 64 + 17 * 1536 bytes.
+#[derive(Drop)]
+pub struct Course<W> {
+    pub output: W,
+    pub store: [u8; 26176],
+    pub room: [u8; 65536],
 }
 
-fn unsub<W: Write>(output: &mut W, store: &mut [u8], filter: &[u8], value: u32) -> io::Result<()> {
-    say_changed(
-        output,
-        trie::remove(store, filter, value),
-        b"gone\n",
-        b"absent\n",
-    )
-}
-
-fn list<W: Write>(output: &mut W, store: &[u8], name: &[u8], room: &mut [u8]) -> io::Result<()> {
-    match trie::matches(store, name, room) {
-        Listed::Given { bytes, records } => say_listing(output, room, bytes, records, b"\n"),
-        Listed::Refused(refusal) => say_refusal(output, refusal),
+impl<W: Write> Course<W> {
+    fn list(&mut self, name: &[u8]) -> io::Result<()> {
+        match trie::matches(&self.store, name, &mut self.room) {
+            Listed::Given { bytes, records } => {
+                say_listing(&mut self.output, &self.room, bytes, records, b"\n")
+            }
+            Listed::Refused(refusal) => say_refusal(&mut self.output, refusal),
+        }
     }
-}
 
-pub fn answer<W: Write>(
-    output: &mut W,
-    store: &mut [u8],
-    line: &[u8],
-    room: &mut [u8],
-) -> io::Result<()> {
-    match words::command(line) {
-        Command::Sub { value, at } => sub(output, store, level::text_from(line, at), value),
-        Command::Unsub { value, at } => unsub(output, store, level::text_from(line, at), value),
-        Command::Match { at } => list(output, store, level::text_from(line, at), room),
-        Command::Bad => bad_line(output),
+    pub fn bad_line(&mut self) -> io::Result<()> {
+        bad_line(&mut self.output)
+    }
+
+    pub fn answer(&mut self, line: &[u8]) -> io::Result<()> {
+        match words::command_of(line) {
+            Some(Command::Sub { value, filter }) => {
+                let changed = trie::insert(&mut self.store, filter, value);
+                say_changed(&mut self.output, changed, "added", "there")
+            }
+            Some(Command::Unsub { value, filter }) => {
+                let changed = trie::remove(&mut self.store, filter, value);
+                say_changed(&mut self.output, changed, "gone", "absent")
+            }
+            Some(Command::Match { name }) => self.list(name),
+            None => self.bad_line(),
+        }
     }
 }

@@ -1,73 +1,53 @@
 // Standard input, line by line. A line has at most 4,096 bytes before its newline; a longer one is one bad line. The last line may
 // lack its newline.
-ghost use Rattle.std.specs.Prelude.{◌≡◌, ◌≤◌, IfOk, length};
+ghost use Rattle.std.specs.Prelude.{◌≤◌, IfOk, length};
 
-use crate::answers;
+use crate::answers::Course;
 use std::io;
 use std::io::{Read, Write};
 
 const LONGEST: usize = 4096;
 
-// A line that has ended, of which so many bytes have come: more than LONGEST where it is too long.
-fn end_line<W: Write>(
-    output: &mut W,
-    store: &mut [u8],
-    room: &mut [u8],
-    line: &[u8],
+// The line that is being read. Of one that is too long the first bytes are kept, and how many have come.
+#[derive(Drop)]
+struct Line {
+    bytes: [u8; LONGEST],
     come: usize,
-) -> io::Result<()>
-    requires { length line.now ≡ 4096 }
-{
-    if LONGEST < come {
-        return program::bad_line(output);
-    }
-    answers::answer(output, store, &line[..come], room)
 }
 
-// One byte more; answers how many bytes of the line have come.
-fn take_byte<W: Write>(
-    output: &mut W,
-    store: &mut [u8],
-    room: &mut [u8],
-    line: &mut [u8],
-    come: usize,
-    byte: u8,
-) -> io::Result<usize>
-    requires { (length line.old ≡ 4096) × (come ≤ 4097) }
-    ensures kept { length line.new ≡ 4096 }
-    ensures most { IfOk result (λ n. n ≤ 4097) }
-{
-    if byte == b'\n' {
-        end_line(output, store, room, line, come)?;
-        return Ok(0);
+impl Line {
+    // What has come; None where it is too long.
+    fn text(&self) -> Option<&[u8]> {
+        self.bytes.get(..self.come)
     }
-    if LONGEST <= come {
-        return Ok(LONGEST + 1);
-    }
-    line[come] = byte;
-    Ok(come + 1)
-}
 
-// The bytes that were read.
-fn take_all<W: Write>(
-    output: &mut W,
-    store: &mut [u8],
-    room: &mut [u8],
-    line: &mut [u8],
-    come: usize,
-    bytes: &[u8],
-) -> io::Result<usize>
-    requires { (length line.old ≡ 4096) × (come ≤ 4097) }
-    ensures kept { length line.new ≡ 4096 }
-    ensures most { IfOk result (λ n. n ≤ 4097) }
-{
-    let mut now_come = come;
-    let mut i = 0;
-    while i < bytes.len() {
-        now_come = take_byte(output, store, room, line, now_come, bytes[i])?;
-        i += 1;
+    fn push(&mut self, byte: u8) {
+        if self.come < LONGEST {
+            self.bytes[self.come] = byte;
+        }
+        self.come = self.come.saturating_add(1);
     }
-    Ok(now_come)
+
+    // Answers the line, and begins the next.
+    fn end<W: Write>(&mut self, course: &mut Course<W>) -> io::Result<()> {
+        match self.text() {
+            Some(text) => course.answer(text)?,
+            None => course.bad_line()?,
+        }
+        self.come = 0;
+        Ok(())
+    }
+
+    // The bytes that were read.
+    fn take<W: Write>(&mut self, course: &mut Course<W>, bytes: &[u8]) -> io::Result<()> {
+        for byte in bytes {
+            match *byte {
+                b'\n' => self.end(course)?,
+                byte => self.push(byte),
+            }
+        }
+        Ok(())
+    }
 }
 
 // Reads what there is, and answers how many bytes came.
@@ -77,28 +57,22 @@ fn read_some<R: Read>(input: &mut R, chunk: &mut [u8]) -> io::Result<usize>
     input.read(chunk)
 }
 
-// A proved loop has to end, and nothing says that the input does. So the loop counts its turns down, from a number that no run
-// uses up.
-pub fn run<R: Read, W: Write>(
-    input: &mut R,
-    output: &mut W,
-    store: &mut [u8],
-    room: &mut [u8],
-) -> io::Result<()> {
-    let mut line: [u8; 4096] = [0; 4096];
+// A proved loop has to end, and nothing says that the input does. So it reads at most a number of times that no run uses up.
+pub fn run<R: Read, W: Write>(input: &mut R, course: &mut Course<W>) -> io::Result<()> {
+    let mut line = Line {
+        bytes: [0; LONGEST],
+        come: 0,
+    };
     let mut chunk: [u8; 4096] = [0; 4096];
-    let mut come: usize = 0;
-    let mut turns = u64::MAX;
-    while turns > 0 {
+    for _ in 0..u64::MAX {
         let n = read_some(input, &mut chunk)?;
         if n == 0 {
             break;
         }
-        come = take_all(output, store, room, &mut line, come, &chunk[..n])?;
-        turns -= 1;
+        line.take(course, &chunk[..n])?;
     }
-    if 0 < come {
-        end_line(output, store, room, &line, come)?;
+    if 0 < line.come {
+        line.end(course)?;
     }
     Ok(())
 }

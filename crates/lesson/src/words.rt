@@ -1,37 +1,33 @@
 // What a line says: a command with its words, or nothing that is known.
-ghost use Rattle.std.specs.Prelude.{◌≤◌, length};
+use program::{number_of, split_word};
 
-use crate::Command;
-use program::{Small, find, small_of};
+// A line that the program takes. Its texts are parts of the line.
+#[derive(Clone, Copy)]
+pub enum Command<'a> {
+    Sub { value: u32, filter: &'a [u8] },
+    Unsub { value: u32, filter: &'a [u8] },
+    Match { name: &'a [u8] },
+}
 
-// Whether a line begins with a word, which ends before a place.
-fn is_word(line: &[u8], end: usize, word: &[u8]) -> bool
-    requires { end ≤ length line.now }
-{
-    level::same_bytes(&line[..end], word)
+// A value, and behind a space a filter.
+fn value_and_filter(words: &[u8]) -> Option<(u32, &[u8])> {
+    let (value, filter) = split_word(words)?;
+    Some((number_of(value)?, filter))
 }
 
 // One space stands between words, and the rest of the line is the filter or the name.
-pub fn command(line: &[u8]) -> Command {
-    let gap = find(line, b' ', 0);
-    if line.len() <= gap {
-        return Command::Bad;
+pub fn command_of(line: &[u8]) -> Option<Command<'_>> {
+    let (call, words) = split_word(line)?;
+    match call {
+        b"sub" => {
+            let (value, filter) = value_and_filter(words)?;
+            Some(Command::Sub { value, filter })
+        }
+        b"unsub" => {
+            let (value, filter) = value_and_filter(words)?;
+            Some(Command::Unsub { value, filter })
+        }
+        b"match" => Some(Command::Match { name: words }),
+        _ => None,
     }
-    if is_word(line, gap, b"match") {
-        return Command::Match { at: gap + 1 };
-    }
-    let end = find(line, b' ', gap + 1);
-    if line.len() <= end {
-        return Command::Bad;
-    }
-    let Small::Value(value) = small_of(&line[gap + 1..end]) else {
-        return Command::Bad;
-    };
-    if is_word(line, gap, b"sub") {
-        return Command::Sub { value, at: end + 1 };
-    }
-    if is_word(line, gap, b"unsub") {
-        return Command::Unsub { value, at: end + 1 };
-    }
-    Command::Bad
 }

@@ -7,22 +7,8 @@ mod records;
 mod saying;
 mod words;
 
-pub use numbers::{number_of, small_of};
+pub use numbers::number_of;
 pub use reading::read_full;
 pub use records::{say_listing, say_lookup};
-pub use saying::{bad_line, say, say_checked, say_number, say_refusal};
-pub use words::{after_word, find, first_word};
-
-// A decimal u64.
-#[derive(Clone, Copy)]
-pub enum Number {
-    Value(u64),
-    Not,
-}
-
-// A decimal u32.
-#[derive(Clone, Copy)]
-pub enum Small {
-    Value(u32),
-    Not,
-}
+pub use saying::{Shown, bad_line, say, say_checked, say_number, say_refusal};
+pub use words::{find, split_word, word_and_rest};

@@ -1,66 +1,30 @@
 // Decimal numbers: no other byte than digits, and no 0 in front but 0 itself.
-ghost use Rattle.std.specs.Prelude.{◌<◌};
+ghost use Rattle.std.specs.Prelude.{◌≤◌, All, IsSome, IsTrue, IfSome, Ok};
 
-use crate::{Number, Small};
+use std::str;
+use std::str::FromStr;
 
-// What a digit stands for. Any other byte gives some number below 16, which keeps the sums within bounds.
-fn digit_of(byte: u8) -> u64
-    ensures { result < 16 }
+// Whether the bytes are those of a number: at least one digit, no other byte, and no 0 in front but 0 itself.
+fn is_number(digits: &[u8]) -> bool
+    ensures { IsTrue result → All (λ b. (48 ≤ b) × (b ≤ 57)) digits.now }
 {
-    (byte as u64) % 16
+    match digits {
+        [] => false,
+        [b'0', _, ..] => false,
+        _ => digits.iter().all(|b| b.is_ascii_digit()),
+    }
 }
 
-// Whether the digits are those of a number: at least one, no other byte, and no 0 in front but 0 itself.
-fn is_number(digits: &[u8]) -> bool {
-    let mut i = 0;
-    while i < digits.len() {
-        if digits[i] < b'0' {
-            return false;
-        }
-        if b'9' < digits[i] {
-            return false;
-        }
-        i += 1;
-    }
-    if digits.len() == 0 {
-        return false;
-    }
-    if digits[0] == b'0' {
-        return digits.len() == 1;
-    }
-    true
-}
-
-// The number that digits stand for, unless it is too large.
-fn value_of(digits: &[u8]) -> Number {
-    let mut value: u64 = 0;
-    let mut i = 0;
-    while i < digits.len() {
-        let digit = digit_of(digits[i]);
-        if (u64::MAX - digit) / 10 < value {
-            return Number::Not;
-        }
-        value = value * 10 + digit;
-        i += 1;
-    }
-    Number::Value(value)
-}
-
-// A decimal u64.
-pub fn number_of(digits: &[u8]) -> Number {
+// The number that digits stand for; None where they stand for none, or for one that the type does not have. `parse` alone would
+// take a sign too, and any zeros in front.
+pub fn number_of<N: FromStr>(digits: &[u8]) -> Option<N>
+where
+    N::Err: Drop,
+    ensures digits { IsSome result → All (λ b. (48 ≤ b) × (b ≤ 57)) digits.now }
+    ensures value { IfSome result (λ n. N.from_str_gives digits.now (Ok n)) }
+{
     if !is_number(digits) {
-        return Number::Not;
+        return None;
     }
-    value_of(digits)
-}
-
-// A decimal u32.
-pub fn small_of(digits: &[u8]) -> Small {
-    let Number::Value(value) = number_of(digits) else {
-        return Small::Not;
-    };
-    if 4294967295 < value {
-        return Small::Not;
-    }
-    Small::Value(value as u32)
+    str::from_utf8(digits).ok()?.parse().ok()
 }

@@ -1,52 +1,79 @@
 // The records of a listing or a lookup, printed: each with its text and its numbers, and then how many there are.
-ghost use Rattle.std.specs.Prelude.{◌≤◌, ◌<◌, IfOk, length};
+ghost use Rattle.std.specs.Prelude.{◌+◌, ◌≤◌, length, IfSome};
+ghost use Rattle.std.specs.Iterator.{at_most};
 
-use crate::saying::{say, say_number};
+use crate::saying::say;
 use std::io;
 use std::io::Write;
 
-// The number of two bytes at a place.
-fn two(out: &[u8], at: usize) -> usize
-    ensures { result < 65536 }
+// The text at the front of a record, behind a mark and its own length, and what stands behind it.
+fn text_of(bytes: &[u8]) -> Option<(&[u8], &[u8])>
+    ensures { IfSome result (λ p. length p.1.now + 4 ≤ length bytes.now) }
 {
-    lent::get16(out, at) as usize
+    let (head, behind) = bytes.split_at_checked(4)?;
+    behind.split_at_checked(lent::get16(head, 2) as usize)
 }
 
-// The values of a record, which begin at a place.
-fn say_values<W: Write>(output: &mut W, out: &[u8], at: usize, count: usize) -> io::Result<()>
-    requires { (at ≤ 4294967296) × (count < 65536) }
-{
-    let mut i: usize = 0;
-    while i < count {
-        say(output, b" ")?;
-        say_number(output, lent::get32(out, at + 4 * i))?;
-        i += 1;
+// A record of a listing: a filter, and its values of four bytes each.
+#[derive(Clone, Copy)]
+struct Hit<'a> {
+    filter: &'a [u8],
+    values: &'a [u8],
+}
+
+// The records of a listing that are left.
+#[derive(Drop)]
+struct Hits<'a>(&'a [u8]);
+
+impl<'a> Iterator for Hits<'a> {
+    type Item = Hit<'a>;
+
+    ghost remaining = { λ s. at_most (length s.0.now) };
+
+    fn next(&mut self) -> Option<Hit<'a>> {
+        let (filter, behind) = text_of(self.0)?;
+        let (count, behind) = behind.split_at_checked(2)?;
+        let (values, behind) = behind.split_at_checked(4 * lent::get16(count, 0) as usize)?;
+        self.0 = behind;
+        Some(Hit { filter, values })
+    }
+}
+
+// A record of a lookup: a name, its handle and the time that is left.
+#[derive(Clone, Copy)]
+struct Kept<'a> {
+    name: &'a [u8],
+    handle: u64,
+    left: u64,
+}
+
+// The records of a lookup that are left.
+#[derive(Drop)]
+struct Names<'a>(&'a [u8]);
+
+impl<'a> Iterator for Names<'a> {
+    type Item = Kept<'a>;
+
+    ghost remaining = { λ s. at_most (length s.0.now) };
+
+    fn next(&mut self) -> Option<Kept<'a>> {
+        let (name, behind) = text_of(self.0)?;
+        let (numbers, behind) = behind.split_at_checked(12)?;
+        self.0 = behind;
+        let handle = lent::get32(numbers, 0);
+        let left = lent::get64(numbers, 4);
+        Some(Kept { name, handle, left })
+    }
+}
+
+// The filter of a record with its values.
+fn say_hit<W: Write>(output: &mut W, hit: Hit<'_>) -> io::Result<()> {
+    write!(output, "hit ")?;
+    say(output, hit.filter)?;
+    for value in hit.values.chunks_exact(4) {
+        write!(output, " {}", lent::get32(value, 0))?;
     }
     Ok(())
-}
-
-// The bytes from one place up to another.
-fn say_part<W: Write>(output: &mut W, out: &[u8], from: usize, end: usize) -> io::Result<()> {
-    if end < from {
-        return Ok(());
-    }
-    if out.len() < end {
-        return Ok(());
-    }
-    say(output, &out[from..end])
-}
-
-// The filter of the record at a place with its values; answers how many values it has.
-fn say_hit<W: Write>(output: &mut W, out: &[u8], at: usize) -> io::Result<usize>
-    requires { at ≤ 4294900000 }
-    ensures { IfOk result (λ count. count < 65536) }
-{
-    let end = at + 4 + two(out, at + 2);
-    let count = two(out, end);
-    say(output, b"hit ")?;
-    say_part(output, out, at + 4, end)?;
-    say_values(output, out, end + 2, count)?;
-    Ok(count)
 }
 
 // All records of a listing, in the first bytes of a buffer; `after` stands behind each.
@@ -57,37 +84,20 @@ pub fn say_listing<W: Write>(
     records: usize,
     after: &[u8],
 ) -> io::Result<()> {
-    let mut at: usize = 0;
     let mut values: usize = 0;
-    while at < bytes {
-        if 4294900000 < at {
-            return Ok(());
-        }
-        let count = say_hit(output, out, at)?;
+    for hit in Hits(&out[..bytes.min(out.len())]) {
+        values = values.saturating_add(hit.values.len() / 4);
+        say_hit(output, hit)?;
         say(output, after)?;
-        values += count;
-        at = at + 6 + two(out, at + 2) + 4 * count;
     }
-    say(output, b"total ")?;
-    say_number(output, records as u64)?;
-    say(output, b" ")?;
-    say_number(output, values as u64)?;
-    say(output, b"\n")
+    writeln!(output, "total {records} {values}")
 }
 
-// The name of the record at a place, its handle and the time that is left; answers where the record ends.
-fn say_kept<W: Write>(output: &mut W, out: &[u8], at: usize) -> io::Result<usize>
-    requires { at ≤ 4294900000 }
-    ensures { IfOk result (λ end. (at < end) × (end ≤ 4295000000)) }
-{
-    let end = at + 4 + two(out, at + 2);
-    say(output, b"kept ")?;
-    say_part(output, out, at + 4, end)?;
-    say(output, b" ")?;
-    say_number(output, lent::get32(out, end))?;
-    say(output, b" ")?;
-    say_number(output, lent::get64(out, end + 4))?;
-    Ok(end + 12)
+// The name of a record, its handle and the time that is left.
+fn say_kept<W: Write>(output: &mut W, kept: Kept<'_>) -> io::Result<()> {
+    write!(output, "kept ")?;
+    say(output, kept.name)?;
+    write!(output, " {} {}", kept.handle, kept.left)
 }
 
 // All records of a lookup, in the first bytes of a buffer; `after` stands behind each.
@@ -98,15 +108,9 @@ pub fn say_lookup<W: Write>(
     records: usize,
     after: &[u8],
 ) -> io::Result<()> {
-    let mut at: usize = 0;
-    while at < bytes {
-        if 4294900000 < at {
-            return Ok(());
-        }
-        at = say_kept(output, out, at)?;
+    for kept in Names(&out[..bytes.min(out.len())]) {
+        say_kept(output, kept)?;
         say(output, after)?;
     }
-    say(output, b"total ")?;
-    say_number(output, records as u64)?;
-    say(output, b"\n")
+    writeln!(output, "total {records}")
 }

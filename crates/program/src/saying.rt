@@ -1,12 +1,14 @@
 // How the programs print: texts, numbers, bad lines and refusals. The first write that fails is the error.
-ghost use Rattle.std.specs.Prelude.{OnOk, decimal};
+ghost use Rattle.std.specs.Prelude.{OnOk, Some, ◌++◌, codes, decimal};
 ghost use Rattle.std.specs.Io.KnownBytes.{Appends};
+ghost use Rattle.refusal.specs.Refusals.{told};
 
 use refusal::Refusal;
-use std::io;
 use std::io::Write;
+use std::{fmt, io};
 use topic::Checked;
 
+// Bytes as they are. They need not be UTF-8, so `write!` has no form for them.
 pub fn say<W: Write>(output: &mut W, text: &[u8]) -> io::Result<()>
     ensures { OnOk result (Appends (W.contents output.old) (W.contents output.new) text.now) }
 {
@@ -20,22 +22,37 @@ pub fn say_number<W: Write>(output: &mut W, n: u64) -> io::Result<()>
 }
 
 // The answer to a line that the program does not take.
-pub fn bad_line<W: Write>(output: &mut W) -> io::Result<()> {
-    say(output, b"bad line\n")
+pub fn bad_line<W: Write>(output: &mut W) -> io::Result<()>
+    ensures { OnOk result (Appends (W.contents output.old) (W.contents output.new) (codes "bad line\n")) }
+{
+    writeln!(output, "bad line")
 }
 
-// A refusal by its number and place.
-pub fn say_refusal<W: Write>(output: &mut W, refusal: Refusal) -> io::Result<()> {
-    say(output, b"refused ")?;
-    say_number(output, refusal::number(refusal))?;
-    say(output, b" at ")?;
-    say_number(output, refusal::place(refusal))?;
-    say(output, b"\n")
+// A refusal is shown by its number and its place.
+#[derive(Clone, Copy)]
+pub struct Shown(pub Refusal);
+
+impl fmt::Display for Shown {
+    ghost output = { λ s. Some (codes "refused " ++ decimal (told s.0).number ++ codes " at " ++ decimal (told s.0).place) };
+
+    fn fmt<W: fmt::Write>(&self, f: &mut fmt::Formatter<W>) -> fmt::Result {
+        let number = refusal::number(self.0);
+        let place = refusal::place(self.0);
+        write!(f, "refused {number} at {place}")
+    }
+}
+
+pub fn say_refusal<W: Write>(output: &mut W, refusal: Refusal) -> io::Result<()>
+    ensures { OnOk result (Appends (W.contents output.old) (W.contents output.new)
+        (codes "refused " ++ decimal (told refusal).number ++ codes " at " ++ decimal (told refusal).place ++ codes "\n")) }
+{
+    let shown = Shown(refusal);
+    writeln!(output, "{shown}")
 }
 
 pub fn say_checked<W: Write>(output: &mut W, checked: Checked) -> io::Result<()> {
     match checked {
-        Checked::Accepted => say(output, b"accepted\n"),
+        Checked::Accepted => writeln!(output, "accepted"),
         Checked::Refused(refusal) => say_refusal(output, refusal),
     }
 }

@@ -1,81 +1,79 @@
 // The lines of the input: the name of a call, and behind a space what it takes. A text is always last, and may have spaces.
-use crate::{names, subscriptions, tests, texts};
-use program::{after_word, bad_line, find, first_word, say};
+use crate::answers::{checked, matched, names, nodes, values};
+use crate::saying::{Answer, say_accepted, say_answer, say_yes, yes_or_no};
+use crate::{retained, subscriptions, texts};
+use program::{bad_line, word_and_rest};
 use region::{Capacities, Cells, Kind, Nodes, Pairs};
 use std::io;
 use std::io::Write;
-use topic::Checked;
 
-// Makes the store an empty one.
-fn open<W: Write>(output: &mut W, store: &mut [u8], kind: Kind) -> io::Result<()> {
+// Makes the store an empty one, of the kind that a word names. One that cannot be opened is a bad line.
+fn open(store: &mut [u8], word: &[u8]) -> Answer<&'static str> {
+    let kind = match word {
+        b"retained" => Kind::Retained,
+        _ => Kind::Subscriptions,
+    };
     let most = Capacities {
         nodes: Nodes(2048),
         pairs: Pairs(512),
         cells: Cells(4096),
     };
-    match region::open(store, kind, most) {
-        Checked::Accepted => say(output, b"opened\n"),
-        Checked::Refused(_) => bad_line(output),
+    checked(region::open(store, kind, most)).ok()?;
+    Some(Ok("opened"))
+}
+
+// Makes a call on a text alone.
+fn answer_text<W: Write>(output: &mut W, call: &[u8], words: &[u8]) -> io::Result<()> {
+    match call {
+        b"is_valid_topic_name" => say_accepted(output, topic::is_valid_topic_name(words)),
+        b"is_valid_topic_filter" => say_accepted(output, topic::is_valid_topic_filter(words)),
+        b"is_valid_subscription_filter" => {
+            say_accepted(output, topic::is_valid_subscription_filter(words))
+        }
+        b"is_shared_subscription" => say_yes(output, topic::is_shared_subscription(words)),
+        b"is_limit_subscription" => say_yes(output, topic::is_limit_subscription(words)),
+        b"is_exclusive_subscription" => say_yes(output, topic::is_exclusive_subscription(words)),
+        b"parse" => texts::parse(output, words),
+        b"level_kind" => say_answer(output, texts::level_kind(words)),
+        b"level_part" => texts::level_part(output, words),
+        b"matches" | b"matches_str" => say_answer(output, texts::matches(words)),
+        _ => bad_line(output),
     }
 }
 
-// The kind of store that a word names.
-fn kind_of(word: &[u8]) -> Kind {
-    if level::same_bytes(word, b"retained") {
-        return Kind::Retained;
+// Makes a call that changes nothing.
+fn ask<W: Write>(output: &mut W, store: &[u8], call: &[u8], words: &[u8]) -> io::Result<()> {
+    match call {
+        b"is_match" => say_answer(
+            output,
+            Some(matched(trie::is_match(store, words)).map(yes_or_no)),
+        ),
+        b"listing" => subscriptions::listing(output, store, words),
+        b"nodes_size" => say_answer(output, Some(nodes(trie::nodes_size(store)))),
+        b"values_size" => say_answer(output, Some(values(trie::values_size(store)))),
+        b"lookup" => retained::lookup(output, store, words),
+        b"page" => say_answer(output, retained::page(store, words)),
+        b"count" => say_answer(output, Some(names(retain::count(store)))),
+        _ => answer_text(output, call, words),
     }
-    Kind::Subscriptions
 }
 
-// Makes a call that changes the store.
-fn change<W: Write>(output: &mut W, store: &mut [u8], call: &[u8], words: &[u8]) -> io::Result<()> {
-    if level::same_bytes(call, b"insert") {
-        return subscriptions::insert(output, store, words);
-    }
-    if level::same_bytes(call, b"remove") {
-        return subscriptions::remove(output, store, words);
-    }
-    if level::same_bytes(call, b"set") {
-        return names::set(output, store, words);
-    }
-    if level::same_bytes(call, b"sweep") {
-        return names::sweep(output, store, words);
-    }
-    if level::same_bytes(call, b"open") {
-        return open(output, store, kind_of(words));
-    }
-    bad_line(output)
-}
-
-// Makes the call, if it changes nothing.
-fn ask<W: Write>(output: &mut W, store: &[u8], call: &[u8], words: &[u8]) -> io::Result<bool> {
-    if texts::answer(output, call, words)? {
-        return Ok(true);
-    }
-    if tests::answer(output, call, words)? {
-        return Ok(true);
-    }
-    if subscriptions::answer(output, store, call, words)? {
-        return Ok(true);
-    }
-    names::answer(output, store, call, words)
-}
-
+// Makes the call of a line.
 fn answer<W: Write>(output: &mut W, store: &mut [u8], line: &[u8]) -> io::Result<()> {
-    let call = first_word(line);
-    let words = after_word(line);
-    if ask(output, store, call, words)? {
-        return Ok(());
+    let (call, words) = word_and_rest(line);
+    match call {
+        b"insert" => say_answer(output, subscriptions::insert(store, words)),
+        b"remove" => say_answer(output, subscriptions::remove(store, words)),
+        b"set" => say_answer(output, retained::set(store, words)),
+        b"sweep" => say_answer(output, retained::sweep(store, words)),
+        b"open" => say_answer(output, open(store, words)),
+        _ => ask(output, store, call, words),
     }
-    change(output, store, call, words)
 }
 
 pub fn run<W: Write>(output: &mut W, input: &[u8], store: &mut [u8]) -> io::Result<()> {
-    let mut at = 0;
-    while at < input.len() {
-        let end = find(input, b'\n', at);
-        answer(output, store, &input[at..end])?;
-        at = end + 1;
+    for line in input.split_inclusive(|b| *b == b'\n') {
+        answer(output, store, line.strip_suffix(b"\n").unwrap_or(line))?;
     }
     Ok(())
 }

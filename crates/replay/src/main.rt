@@ -2,11 +2,11 @@
 // answer on a line. In `stdout` stand the answers of the Rust; README.md says how both files were made.
 #![tactic(auto)]
 
+mod answers;
 mod lines;
-mod names;
+mod retained;
 mod saying;
 mod subscriptions;
-mod tests;
 mod texts;
 
 use std::io;

@@ -1,29 +1,38 @@
 // How answers are printed. The Rust only refuses where this library has a number, so a refusal is the word alone.
-use edit::Changed;
-use program::{say, say_number};
+use crate::answers::checked;
+use program::bad_line;
+use refusal::Refusal;
+use std::fmt::Display;
 use std::io;
 use std::io::Write;
+use topic::Checked;
+
+// What the call of a line answers; None where the line is bad.
+pub type Answer<T> = Option<Result<T, Refusal>>;
+
+pub fn say_answer<W: Write, T: Display + Drop>(
+    output: &mut W,
+    answer: Answer<T>,
+) -> io::Result<()> {
+    match answer {
+        Some(Ok(value)) => writeln!(output, "{value}"),
+        Some(Err(_)) => say_refused(output),
+        None => bad_line(output),
+    }
+}
 
 pub fn say_refused<W: Write>(output: &mut W) -> io::Result<()> {
-    say(output, b"refused\n")
+    writeln!(output, "refused")
+}
+
+pub fn yes_or_no(yes: bool) -> &'static str {
+    if yes { "yes" } else { "no" }
 }
 
 pub fn say_yes<W: Write>(output: &mut W, yes: bool) -> io::Result<()> {
-    if yes {
-        return say(output, b"yes\n");
-    }
-    say(output, b"no\n")
+    say_answer(output, Some(Ok(yes_or_no(yes))))
 }
 
-// A number that ends its line.
-pub fn say_last<W: Write>(output: &mut W, n: u64) -> io::Result<()> {
-    say_number(output, n)?;
-    say(output, b"\n")
-}
-
-pub fn say_changed<W: Write>(output: &mut W, changed: Changed) -> io::Result<()> {
-    match changed {
-        Changed::Done(answer) => say_last(output, answer),
-        Changed::Refused(_) => say_refused(output),
-    }
+pub fn say_accepted<W: Write>(output: &mut W, answer: Checked) -> io::Result<()> {
+    say_answer(output, Some(checked(answer).map(|_| "accepted")))
 }

@@ -2,9 +2,8 @@
 // document 01.
 #![tactic(auto)]
 
+mod case;
 mod names;
-mod opening;
-mod saying;
 mod subscriptions;
 
 use std::io;
