@@ -38,9 +38,9 @@ fn write_text(out: &mut [u8], at: usize, name: &[u8], marks: &[u8], depth: usize
 {
     let mut from: usize = 0;
     let mut next = at;
-    for mark in &marks[..depth] {
+    for j in 0..depth {
         let stop = walk::level_stop(name, from);
-        next = write_level(out, next, &name[from..stop], *mark);
+        next = write_level(out, next, &name[from..stop], marks[j]);
         from = stop + 1;
     }
     out[next] = b'#';

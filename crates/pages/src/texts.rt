@@ -28,8 +28,8 @@ fn write_text(out: &mut [u8], at: usize, path: &[usize; 128], s: &[u8], ask: Ask
     let base = ask.base;
     let n = ask.n;
     let mut next = at;
-    for node in &path[..depth] {
-        next = write_level(out, next, forest::level_at(s, base, *node, n));
+    for j in 0..depth {
+        next = write_level(out, next, forest::level_at(s, base, path[j], n));
     }
 }
 

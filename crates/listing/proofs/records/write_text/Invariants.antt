@@ -5,6 +5,3 @@ use Rattle.listing.proofs.records.write_text.Given as goal
 
 abbrev pub invariant-loop-j : goal.invariant-loop-j
 invariant-loop-j l = SoFar l.name l.marks l.depth l.at l.initial.out l.out l.j l.from l.next
-
-abbrev pub decreases-loop-j : goal.decreases-loop-j
-decreases-loop-j l = l.depth - l.j

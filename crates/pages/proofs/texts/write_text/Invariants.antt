@@ -5,6 +5,3 @@ use Rattle.pages.proofs.texts.write_text.Given as goal
 
 abbrev pub invariant-loop-j : goal.invariant-loop-j
 invariant-loop-j l = SoFar l.base l.s l.n l.path l.depth l.at l.initial.out l.out l.j l.next
-
-abbrev pub decreases-loop-j : goal.decreases-loop-j
-decreases-loop-j l = l.depth - l.j

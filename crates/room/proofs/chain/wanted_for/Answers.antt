@@ -8,9 +8,6 @@ pub loop-p-init : goal.loop-p-init
 loop-p-init c = search (rules, wanted_begin)
 
 -- src/chain.rt:102:18
-pub cells_of-cells-requires : goal.cells_of-cells-requires
-cells_of-cells-requires c = search (rules, level_short)
-
 -- src/chain.rt:99:5
 pub loop-p-preserved : goal.loop-p-preserved
 loop-p-preserved c = search (rules, wanted_step)
