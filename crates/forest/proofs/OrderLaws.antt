@@ -1,28 +1,62 @@
--- The order of two levels, as the library compares them. Assumes nothing.
-use Rattle.std.proofs.Common.{◌≡◌, refl, ℕ, List, [], ◌∷◌, Bool, true, false, cond, not, ◌&&◌, ◌||◌, arith, ap}
-use Rattle.std.specs.Ordering.{nat_cmp, ordering_then}
+-- The loop that compares two levels: what each turn finds. Assumes nothing.
+use mathlib.Core.Path.{◌≡◌, refl}
+use mathlib.Core.List.{List}
+use mathlib.Core.Bool.{Bool, true, false, cond}
+use Prim.Native.Nat.{ℕ, ◌+◌, ◌≤◌, ◌<◌, min}
+use native.Mathlib.Numerals.{add-one}
+use native.Mathlib.Omega.{arith}
+use lib.Dec.{eqb, ltb}
+use lib.ListN.{length, drop, get_or, drop_of_length-le}
+use lib.Seq.{drop-cons}
+use borrow.Author.Tests.{eq-eqb, ne_eqb, lt-ltb, le-ltb, ltb-true, ltb-false, eqb-true, eqb-false}
+use Rattle.std.specs.Ordering.{nat_cmp}
 use Rattle.std.specs.declared.cmp.Ordering.{Ordering}
 use Rattle.std.specs.declared.cmp.Ordering.TheVariants.{Less, Equal, Greater}
-use Rattle.std.specs.Cmp.Lexicographic.{slice_cmp}
-use lib.Dec.{eqb, ltb}
-use borrow.Author.Tests.{ltb-true, ltb-false, eqb-true, eqb-false, ne_eqb, le-ltb, lt-ltb, eq-eqb}
-use Rattle.level.specs.Kinds.{same}
-use Rattle.held.specs.Order.{level_lt}
 use Rattle.forest.specs.Compare.{order_of}
 
--- the first bytes decide, or the others
-first : (x y : ℕ) (s r : Bool) (o : Ordering) → o ≡ cond s Equal (cond r Less Greater)
-    → (u e v : Bool) → ltb x y ≡ u → eqb x y ≡ e → ltb y x ≡ v
-    → ordering_then (cond u Less (cond e Equal Greater)) o ≡ cond (e && s) Equal (cond (u || (not v && r)) Less Greater)
-first x y s r o q true true v a b c = absurd (omega (arith, ltb-true x y a, eqb-true x y b))
-first x y s r o q true false v a b c = refl
-first x y s r o q false true true a b c = absurd (omega (arith, ltb-true y x c, eqb-true x y b))
-first x y s r o q false true false a b c = rw q
-first x y s r o q false false true a b c = refl
-first x y s r o q false false false a b c = absurd (omega (arith, ltb-false x y a, ltb-false y x c, eqb-false x y b))
+module _ (a b : List ℕ) (i : ℕ) {o : Ordering} (turn : order_of (drop i a) (drop i b) ≡ o) where
+  -- n bytes are in both
+  module _ {n : ℕ} (m : n ≡ min (length a) (length b)) where
+    shorter : i ≤ n → n ≤ i → length a < length b → Less ≡ o
+    shorter p q h = rw (drop_of_length-le a {i = i} (omega arith), drop-cons b i 0 (omega arith)) at turn
 
-pub order_is : (a b : List ℕ) → slice_cmp nat_cmp a b ≡ order_of a b
-order_is [] [] = refl
-order_is [] (y ∷ b) = refl
-order_is (x ∷ a) [] = refl
-order_is (x ∷ a) (y ∷ b) = first x y (same a b) (level_lt a b) (slice_cmp nat_cmp a b) (order_is a b) (ltb x y) (eqb x y) (ltb y x) refl refl refl
+    longer : i ≤ n → n ≤ i → length b < length a → Greater ≡ o
+    longer p q h = rw (drop-cons a i 0 (omega arith), drop_of_length-le b {i = i} (omega arith)) at turn
+
+    both_end : i ≤ n → n ≤ i → length b ≤ length a → length a ≤ length b → Equal ≡ o
+    both_end p q h k = rw (drop_of_length-le a {i = i} (omega arith), drop_of_length-le b {i = i} (omega arith)) at turn
+
+    pub ended : i ≤ n → n ≤ i → nat_cmp (length a) (length b) ≡ o
+    ended p q = go (ltb (length a) (length b)) (eqb (length a) (length b)) refl refl
+      where
+        go : (t u : Bool) → ltb (length a) (length b) ≡ t → eqb (length a) (length b) ≡ u → cond t Less (cond u Equal Greater) ≡ o
+        go true u e f = shorter p q (ltb-true (length a) (length b) e)
+        go false true e f = let z : length a ≡ length b = eqb-true (length a) (length b) f in both_end p q (omega (arith, z)) (omega (arith, z))
+        go false false e f = longer p q (omega (arith, ltb-false (length a) (length b) e, eqb-false (length a) (length b) f))
+
+    module _ (here : i < n) where
+      ha : i < length a
+      ha = omega arith
+
+      hb : i < length b
+      hb = omega arith
+
+      pub byte-less : get_or a i 0 < get_or b i 0 → Less ≡ o
+      byte-less h =
+          let e : eqb (get_or a i 0) (get_or b i 0) ≡ false = ne_eqb (get_or a i 0) (get_or b i 0) (λ (q : get_or a i 0 ≡ get_or b i 0). omega (arith, q)) in
+          let l : ltb (get_or a i 0) (get_or b i 0) ≡ true = lt-ltb (get_or a i 0) (get_or b i 0) h in
+          rw (drop-cons a i 0 ha, drop-cons b i 0 hb, e, l) at turn
+
+      pub byte_greater : get_or b i 0 < get_or a i 0 → Greater ≡ o
+      byte_greater h =
+          let e : eqb (get_or a i 0) (get_or b i 0) ≡ false = ne_eqb (get_or a i 0) (get_or b i 0) (λ (q : get_or a i 0 ≡ get_or b i 0). omega (arith, q)) in
+          let l : ltb (get_or a i 0) (get_or b i 0) ≡ false = le-ltb (get_or a i 0) (get_or b i 0) (omega arith) in
+          let g : ltb (get_or b i 0) (get_or a i 0) ≡ true = lt-ltb (get_or b i 0) (get_or a i 0) h in
+          rw (drop-cons a i 0 ha, drop-cons b i 0 hb, e, l, g) at turn
+
+      pub byte-same : get_or b i 0 ≤ get_or a i 0 → get_or a i 0 ≤ get_or b i 0 → order_of (drop (i + 1) a) (drop (i + 1) b) ≡ o
+      byte-same p q =
+          let e : eqb (get_or a i 0) (get_or b i 0) ≡ true = eq-eqb (get_or a i 0) (get_or b i 0) (omega arith) in
+          let l : ltb (get_or a i 0) (get_or b i 0) ≡ false = le-ltb (get_or a i 0) (get_or b i 0) p in
+          let g : ltb (get_or b i 0) (get_or a i 0) ≡ false = le-ltb (get_or b i 0) (get_or a i 0) q in
+          rw add-one (rw (drop-cons a i 0 ha, drop-cons b i 0 hb, e, l, g) at turn)

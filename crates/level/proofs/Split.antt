@@ -1,20 +1,19 @@
 -- Laws of `split`: the level that begins at a position, and the levels after it. Assumes nothing.
 use mathlib.Core.Path.{◌≡◌, refl, sym, ap, ◌∙◌}
 use mathlib.Core.Bool.{Bool, true, false, cond}
-use Rattle.std.specs.List.{count_by, position, position_or_len}
-use Rattle.std.specs.Prelude.{Option, Some, None, unwrap_or, ltb}
-use Rattle.std.proofs.lemmas.List.Recursion.{is_position_or_len, is_count_by}
+use Rattle.std.specs.List.{count_by}
+use Rattle.std.proofs.lemmas.List.Recursion.{is_count_by}
 use Rattle.std.proofs.lemmas.List.Sums.{count_by-le-length}
 use mathlib.Core.List.{List, [], ◌∷◌}
 use Prim.Native.Nat.{ℕ, zero, suc, ◌+◌, ◌-◌, ◌≤◌, ◌<◌}
-use native.Mathlib.Nat.{zero-add, suc-add, add-suc, le_of_suc-le-suc, not-suc-le-zero}
+use native.Mathlib.Nat.{add-zero, zero-add, suc-add, add-suc, le_of_suc-le-suc, not-suc-le-zero}
 use native.Mathlib.Numerals.{add-one}
 use native.Mathlib.Omega.{arith}
 use lib.Dec.{eqb}
 use lib.ListN.{length, take, drop, get_or, length-drop, drop_of_length-le}
-use lib.Seq.{take_all}
+use lib.Seq.{drop-cons, take_all}
 use native.Mathlib.Decide.{dec_le}
-use borrow.Author.Tests.{ltb-false}
+use borrow.Author.Tests.{ne_eqb}
 use Rattle.level.specs.Levels.{push, split, width, start_of}
 use Rattle.level.specs.Places.{keep, first, levels_at, end_of}
 
@@ -192,24 +191,17 @@ count_slashes = is_count_by (λ s. length (split s) - 1) (λ b. eqb b 47) refl (
     less true b s = rw (split_cons s) (omega arith)
     less false b s = rw (split_cons s)
 
--- the first level has the bytes before the first '/'
-length-keep-is : (t : Bool) (b : ℕ) (l : List ℕ) → length (keep t b l) ≡ cond t 0 (1 + length l)
-length-keep-is true b l = refl
-length-keep-is false b l = omega arith
+-- one step of the search for a level's end
+pub end_here : (s : List ℕ) (i : ℕ) → i < length s → get_or s i 0 ≡ 47 → end_of s i ≡ i
+end_here s i h e = rw (drop-cons s i 0 h, e) (add-zero i)
 
-pub first-position : (s : List ℕ) → length (first s) ≡ position_or_len (λ b. eqb b 47) s
-first-position = is_position_or_len (λ s. length (first s)) (λ b. eqb b 47) refl (λ b s. length-keep-is (eqb b 47) b (first s))
+pub end_next : (s : List ℕ) (i : ℕ) → i < length s → (get_or s i 0 ≡ 47 → ⊥) → end_of s (i + 1) ≡ end_of s i
+end_next s i h n =
+    let e : eqb (get_or s i 0) 47 ≡ false = ne_eqb _ _ n in
+    rw (drop-cons s i 0 h, e, add-one) (omega arith)
 
-position-or : (s : List ℕ) (n : ℕ) (t : Bool) → ltb n (length s) ≡ t → n ≤ length s → unwrap_or (cond t (Some n) None) (length s) ≡ n
-position-or s n true e h = refl
-position-or s n false e h = omega (arith, ltb-false n (length s) e)
-
-pub end-position : (s : List ℕ) (from : ℕ) {rest : List ℕ} {o : Option ℕ} → rest ≡ drop from s → o ≡ position (λ b. eqb b 47) rest → from + unwrap_or o (length rest) ≡ end_of s from
-end-position s from {rest} {o} e q =
-    let n : ℕ = position_or_len (λ b. eqb b 47) rest in
-    let f : length (first rest) ≡ n = first-position rest in
-    let m : n ≤ length rest = rw (← f) (length-first rest) in
-    rw (q, ← e, position-or rest n (ltb n (length rest)) refl m, f)
+pub end_past : (s : List ℕ) (i : ℕ) → length s ≤ i → end_of s i ≡ i
+end_past s i h = rw (drop_of_length-le s h) (add-zero i)
 
 pub some_level : (s : List ℕ) → 0 < length (split s)
 some_level s = rw (split_cons s) (omega arith)

@@ -3,8 +3,7 @@
 
 mod levels;
 
-ghost use Rattle.std.specs.Prelude.{◌≡◌, ◌==◌, length, drop};
-ghost use Rattle.std.specs.List.{position};
+ghost use Rattle.std.specs.Prelude.{◌≡◌, length, drop};
 ghost use Rattle.level.specs.Levels.{split, start_of, has};
 ghost use Rattle.level.specs.Kinds.{is_only, wild, dollar, bad, same, kind_of};
 ghost use Rattle.level.specs.Places.{first, end_of};
@@ -21,19 +20,17 @@ pub enum Kind {
     MultiWildcard,
 }
 
-// Where the level that begins at `from` ends.
+// Where the level that begins at `from` ends. It is asked for each level of each record of a listing, and by the places themselves
+// it is found in less time than by `position` of what is left of the text.
 pub fn level_end(text: &[u8], from: usize) -> usize
     ensures { result ≡ end_of text.now from }
 {
-    let rest = text_from(text, from);
-    from + first_slash(rest).unwrap_or(rest.len())
-}
-
-// Where the first '/' stands.
-fn first_slash(text: &[u8]) -> Option<usize>
-    ensures { result ≡ position (λ b. b == 47) text.now }
-{
-    text.iter().position(|byte| *byte == b'/')
+    for i in from..text.len() {
+        if text[i] == b'/' {
+            return i;
+        }
+    }
+    from.max(text.len())
 }
 
 // How many levels the text has.

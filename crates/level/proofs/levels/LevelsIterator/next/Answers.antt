@@ -1,6 +1,5 @@
 -- `Levels` gives the levels in turn. Assumes nothing.
-use Rattle.std.proofs.Common.{rules, ◌≡◌, ◌∷◌, ◌+◌, length, List, ℕ, arith, ap}
-use Rattle.level.specs.Places.{levels_at}
+use Rattle.std.proofs.Common.{rules, length, List, ℕ, arith, ap}
 use Rattle.level.proofs.Split.{levels-none, next_level}
 use Rattle.level.proofs.levels.LevelsIterator.next.Goals as goal
 
