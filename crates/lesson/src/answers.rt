@@ -1,24 +1,28 @@
 // The answer to a line.
 use crate::words;
 use crate::words::Command;
-use edit::{Changed, Listed};
 use program::{bad_line, say_listing};
 use refusal::Refusal;
 use std::io;
 use std::io::Write;
 
 // The course shows a refusal by its number alone.
-fn say_refusal<W: Write>(output: &mut W, refusal: Refusal) -> io::Result<()> {
+pub fn say_refusal<W: Write>(output: &mut W, refusal: Refusal) -> io::Result<()> {
     let number = refusal::number(refusal);
     writeln!(output, "refused {number}")
 }
 
 // `yes` where something changed, else `no`.
-fn say_changed<W: Write>(output: &mut W, changed: Changed, yes: &str, no: &str) -> io::Result<()> {
+fn say_changed<W: Write>(
+    output: &mut W,
+    changed: Result<u64, Refusal>,
+    yes: &str,
+    no: &str,
+) -> io::Result<()> {
     match changed {
-        Changed::Done(1) => writeln!(output, "{yes}"),
-        Changed::Done(_) => writeln!(output, "{no}"),
-        Changed::Refused(refusal) => say_refusal(output, refusal),
+        Ok(1) => writeln!(output, "{yes}"),
+        Ok(_) => writeln!(output, "{no}"),
+        Err(refusal) => say_refusal(output, refusal),
     }
 }
 
@@ -34,10 +38,14 @@ pub struct Course<W> {
 impl<W: Write> Course<W> {
     fn list(&mut self, name: &[u8]) -> io::Result<()> {
         match trie::matches(&self.store, name, &mut self.room) {
-            Listed::Given { bytes, records } => {
-                say_listing(&mut self.output, &self.room, bytes, records, b"\n")
-            }
-            Listed::Refused(refusal) => say_refusal(&mut self.output, refusal),
+            Ok(listed) => say_listing(
+                &mut self.output,
+                &self.room,
+                listed.bytes,
+                listed.records,
+                b"\n",
+            ),
+            Err(refusal) => say_refusal(&mut self.output, refusal),
         }
     }
 

@@ -22,6 +22,8 @@ fn main(rt: HostRuntime) -> io::Result<()> {
         pairs: Pairs(512),
         cells: Cells(512),
     };
-    region::open(&mut course.store, Kind::Subscriptions, most);
-    lines::run(&mut rt.stdin(), &mut course)
+    match region::open(&mut course.store, Kind::Subscriptions, most) {
+        Ok(()) => lines::run(&mut rt.stdin(), &mut course),
+        Err(refusal) => answers::say_refusal(&mut course.output, refusal),
+    }
 }

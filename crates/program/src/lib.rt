@@ -10,5 +10,5 @@ mod words;
 pub use numbers::number_of;
 pub use reading::read_full;
 pub use records::{say_listing, say_lookup};
-pub use saying::{Shown, bad_line, say, say_checked, say_number, say_refusal};
+pub use saying::{Shown, bad_line, say, say_checked, say_number, say_refusal, say_result};
 pub use words::{find, split_word, word_and_rest};

@@ -1,12 +1,11 @@
 // How the programs print: texts, numbers, bad lines and refusals. The first write that fails is the error.
-ghost use Rattle.std.specs.Prelude.{OnOk, Some, ◌++◌, codes, decimal};
+ghost use Rattle.std.specs.Prelude.{IfErr, IfOk, IfSome, OnOk, Some, ◌++◌, codes, decimal};
 ghost use Rattle.std.specs.Io.KnownBytes.{Appends};
 ghost use Rattle.refusal.specs.Refusals.{told};
 
 use refusal::Refusal;
 use std::io::Write;
 use std::{fmt, io};
-use topic::Checked;
 
 // Bytes as they are. They need not be UTF-8, so `write!` has no form for them.
 pub fn say<W: Write>(output: &mut W, text: &[u8]) -> io::Result<()>
@@ -50,9 +49,27 @@ pub fn say_refusal<W: Write>(output: &mut W, refusal: Refusal) -> io::Result<()>
     writeln!(output, "{shown}")
 }
 
-pub fn say_checked<W: Write>(output: &mut W, checked: Checked) -> io::Result<()> {
-    match checked {
-        Checked::Accepted => writeln!(output, "accepted"),
-        Checked::Refused(refusal) => say_refusal(output, refusal),
+// What a call answers, by what it displays, or its refusal.
+pub fn say_result<W: Write, T: fmt::Display + Drop>(
+    output: &mut W,
+    answer: Result<T, Refusal>,
+) -> io::Result<()>
+    ensures shown { IfOk answer (λ value. IfSome (T.output value)
+        (λ text. OnOk result (Appends (W.contents output.old) (W.contents output.new) (text ++ codes "\n")))) }
+    ensures refused { IfErr answer (λ refusal. OnOk result (Appends (W.contents output.old) (W.contents output.new)
+        (codes "refused " ++ decimal (told refusal).number ++ codes " at " ++ decimal (told refusal).place ++ codes "\n"))) }
+{
+    match answer {
+        Ok(value) => writeln!(output, "{value}"),
+        Err(refusal) => say_refusal(output, refusal),
     }
+}
+
+// What a test answers: that the text is accepted, or the refusal.
+pub fn say_checked<W: Write>(output: &mut W, checked: Result<(), Refusal>) -> io::Result<()>
+    ensures accepted { IfOk checked (λ _. OnOk result (Appends (W.contents output.old) (W.contents output.new) (codes "accepted\n"))) }
+    ensures refused { IfErr checked (λ refusal. OnOk result (Appends (W.contents output.old) (W.contents output.new)
+        (codes "refused " ++ decimal (told refusal).number ++ codes " at " ++ decimal (told refusal).place ++ codes "\n"))) }
+{
+    say_result(output, checked.map(|_| "accepted"))
 }

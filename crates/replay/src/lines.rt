@@ -1,5 +1,4 @@
 // The lines of the input: the name of a call, and behind a space what it takes. A text is always last, and may have spaces.
-use crate::answers::{checked, matched, names, nodes, values};
 use crate::saying::{Answer, say_accepted, say_answer, say_yes, yes_or_no};
 use crate::{retained, subscriptions, texts};
 use program::{bad_line, word_and_rest};
@@ -18,7 +17,7 @@ fn open(store: &mut [u8], word: &[u8]) -> Answer<&'static str> {
         pairs: Pairs(512),
         cells: Cells(4096),
     };
-    checked(region::open(store, kind, most)).ok()?;
+    region::open(store, kind, most).ok()?;
     Some(Ok("opened"))
 }
 
@@ -44,16 +43,13 @@ fn answer_text<W: Write>(output: &mut W, call: &[u8], words: &[u8]) -> io::Resul
 // Makes a call that changes nothing.
 fn ask<W: Write>(output: &mut W, store: &[u8], call: &[u8], words: &[u8]) -> io::Result<()> {
     match call {
-        b"is_match" => say_answer(
-            output,
-            Some(matched(trie::is_match(store, words)).map(yes_or_no)),
-        ),
+        b"is_match" => say_answer(output, Some(trie::is_match(store, words).map(yes_or_no))),
         b"listing" => subscriptions::listing(output, store, words),
-        b"nodes_size" => say_answer(output, Some(nodes(trie::nodes_size(store)))),
-        b"values_size" => say_answer(output, Some(values(trie::values_size(store)))),
+        b"nodes_size" => say_answer(output, Some(trie::nodes_size(store).map(|nodes| nodes.0))),
+        b"values_size" => say_answer(output, Some(trie::values_size(store).map(|pairs| pairs.0))),
         b"lookup" => retained::lookup(output, store, words),
         b"page" => say_answer(output, retained::page(store, words)),
-        b"count" => say_answer(output, Some(names(retain::count(store)))),
+        b"count" => say_answer(output, Some(retain::count(store).map(|names| names.0))),
         _ => answer_text(output, call, words),
     }
 }

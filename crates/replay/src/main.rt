@@ -2,7 +2,6 @@
 // answer on a line. In `stdout` stand the answers of the Rust; README.md says how both files were made.
 #![tactic(auto)]
 
-mod answers;
 mod lines;
 mod retained;
 mod saying;

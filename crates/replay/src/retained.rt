@@ -1,36 +1,26 @@
 // The calls on a store of retained names.
-use crate::answers::{changed, listed, paged};
 use crate::saying::{Answer, say_refused};
 use program::{bad_line, number_of, say_lookup, word_and_rest};
-use retain::Moment;
 use std::io::Write;
 use std::{fmt, io};
-
-// `never`, or a moment.
-fn moment_of(word: &[u8]) -> Moment {
-    match number_of(word) {
-        Some(moment) => Moment::At(moment),
-        None => Moment::Never,
-    }
-}
 
 // A payload's length, a handle, a moment or `never`, and a name.
 pub fn set(store: &mut [u8], words: &[u8]) -> Answer<u64> {
     let (payload, words) = word_and_rest(words);
     let (handle, words) = word_and_rest(words);
     let (moment, name) = word_and_rest(words);
-    Some(changed(retain::set(
+    Some(retain::set(
         store,
         name,
         number_of(payload)?,
         number_of(handle)?,
-        moment_of(moment),
-    )))
+        number_of(moment),
+    ))
 }
 
 // A clock.
 pub fn sweep(store: &mut [u8], word: &[u8]) -> Answer<u64> {
-    Some(changed(retain::remove_expired(store, number_of(word)?)))
+    Some(retain::remove_expired(store, number_of(word)?))
 }
 
 // A clock, and a filter.
@@ -40,8 +30,8 @@ pub fn lookup<W: Write>(output: &mut W, store: &[u8], words: &[u8]) -> io::Resul
     let Some(clock) = number_of(clock) else {
         return bad_line(output);
     };
-    match listed(retain::get(store, filter, clock, &mut room)) {
-        Ok((bytes, records)) => say_lookup(output, &room, bytes, records, b"; "),
+    match retain::get(store, filter, clock, &mut room) {
+        Ok(listed) => say_lookup(output, &room, listed.bytes, listed.records, b"; "),
         Err(_) => say_refused(output),
     }
 }
@@ -69,12 +59,15 @@ pub fn page(store: &[u8], words: &[u8]) -> Answer<Given> {
     let mut room: [u8; 65536] = [0; 65536];
     let (clock, words) = word_and_rest(words);
     let (offset, limit) = word_and_rest(words);
-    let page = paged(retain::get_all_paginated(
+    let page = retain::get_all_paginated(
         store,
         number_of(clock)?,
         number_of(offset)?,
         number_of(limit)?,
         &mut room,
-    ));
-    Some(page.map(|(records, more)| Given { records, more }))
+    );
+    Some(page.map(|page| Given {
+        records: page.records,
+        more: page.more,
+    }))
 }

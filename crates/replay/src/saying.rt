@@ -1,11 +1,9 @@
 // How answers are printed. The Rust only refuses where this library has a number, so a refusal is the word alone.
-use crate::answers::checked;
 use program::bad_line;
 use refusal::Refusal;
 use std::fmt::Display;
 use std::io;
 use std::io::Write;
-use topic::Checked;
 
 // What the call of a line answers; None where the line is bad.
 pub type Answer<T> = Option<Result<T, Refusal>>;
@@ -33,6 +31,6 @@ pub fn say_yes<W: Write>(output: &mut W, yes: bool) -> io::Result<()> {
     say_answer(output, Some(Ok(yes_or_no(yes))))
 }
 
-pub fn say_accepted<W: Write>(output: &mut W, answer: Checked) -> io::Result<()> {
-    say_answer(output, Some(checked(answer).map(|_| "accepted")))
+pub fn say_accepted<W: Write>(output: &mut W, answer: Result<(), Refusal>) -> io::Result<()> {
+    say_answer(output, Some(answer.map(|_| "accepted")))
 }

@@ -1,5 +1,4 @@
 // The calls on a store of subscriptions.
-use crate::answers::{changed, listed};
 use crate::saying::{Answer, say_refused};
 use program::{number_of, say_listing, word_and_rest};
 use std::io;
@@ -13,18 +12,18 @@ fn value_and_filter(words: &[u8]) -> Option<(u32, &[u8])> {
 
 pub fn insert(store: &mut [u8], words: &[u8]) -> Answer<u64> {
     let (value, filter) = value_and_filter(words)?;
-    Some(changed(trie::insert(store, filter, value)))
+    Some(trie::insert(store, filter, value))
 }
 
 pub fn remove(store: &mut [u8], words: &[u8]) -> Answer<u64> {
     let (value, filter) = value_and_filter(words)?;
-    Some(changed(trie::remove(store, filter, value)))
+    Some(trie::remove(store, filter, value))
 }
 
 pub fn listing<W: Write>(output: &mut W, store: &[u8], name: &[u8]) -> io::Result<()> {
     let mut room: [u8; 65536] = [0; 65536];
-    match listed(trie::matches(store, name, &mut room)) {
-        Ok((bytes, records)) => say_listing(output, &room, bytes, records, b"; "),
+    match trie::matches(store, name, &mut room) {
+        Ok(listed) => say_listing(output, &room, listed.bytes, listed.records, b"; "),
         Err(_) => say_refused(output),
     }
 }

@@ -1,5 +1,4 @@
 // The calls on texts: parsing, levels, and whether a filter takes a name.
-use crate::answers::{matched, parsed};
 use crate::saying::{Answer, yes_or_no};
 use level::Kind;
 use program::{bad_line, number_of, say, say_refusal, word_and_rest};
@@ -9,7 +8,7 @@ use std::io::Write;
 
 // The Rust tells the two faults of parsing apart, and names the level that is bad.
 pub fn parse<W: Write>(output: &mut W, text: &[u8]) -> io::Result<()> {
-    match parsed(topic::parse(text)) {
+    match topic::parse(text) {
         Ok(count) => writeln!(output, "levels {count}"),
         Err(refusal @ Refusal::BadLevel { place: _ }) => say_refusal(output, refusal),
         Err(refusal) => {
@@ -19,14 +18,15 @@ pub fn parse<W: Write>(output: &mut W, text: &[u8]) -> io::Result<()> {
     }
 }
 
-fn word_of(kind: Kind) -> &'static str {
+// The word for a level's kind; `none` where there is no such level.
+fn word_of(kind: Option<Kind>) -> &'static str {
     match kind {
-        Kind::None => "none",
-        Kind::Normal => "normal",
-        Kind::Metadata => "metadata",
-        Kind::Blank => "blank",
-        Kind::SingleWildcard => "single wildcard",
-        Kind::MultiWildcard => "multi wildcard",
+        None => "none",
+        Some(Kind::Normal) => "normal",
+        Some(Kind::Metadata) => "metadata",
+        Some(Kind::Blank) => "blank",
+        Some(Kind::SingleWildcard) => "single wildcard",
+        Some(Kind::MultiWildcard) => "multi wildcard",
     }
 }
 
@@ -50,5 +50,5 @@ pub fn level_part<W: Write>(output: &mut W, words: &[u8]) -> io::Result<()> {
 // A filter, and a name. The Rust has two functions for this, and the library one call.
 pub fn matches(words: &[u8]) -> Answer<&'static str> {
     let (filter, name) = word_and_rest(words);
-    Some(matched(topic::matches(filter, name)).map(yes_or_no))
+    Some(topic::matches(filter, name).map(yes_or_no))
 }

@@ -1,37 +1,39 @@
 // A store of a case, with where its answers go. Each call prints what it answers, behind a label.
-use edit::{Changed, Listed};
-use program::{Shown, say_checked};
+use edit::Listed;
+use program::{Shown, say_checked, say_result};
+use refusal::Refusal;
 use region::{Capacities, Cells, Kind, Nodes, Pairs};
-use retain::{Moment, Names};
 use std::io;
 use std::io::Write;
 
 // The answer of a change.
-fn say_changed<W: Write>(output: &mut W, label: &str, changed: Changed) -> io::Result<()> {
+fn say_changed<W: Write>(
+    output: &mut W,
+    label: &str,
+    changed: Result<u64, Refusal>,
+) -> io::Result<()> {
     match changed {
-        Changed::Done(answer) => writeln!(output, "{label}: answered {answer}"),
-        Changed::Refused(refusal) => writeln!(output, "{label}: {}", Shown(refusal)),
+        Ok(answer) => writeln!(output, "{label}: answered {answer}"),
+        Err(refusal) => writeln!(output, "{label}: {}", Shown(refusal)),
     }
 }
 
 // The records of a listing or a lookup, which stand at the front of a buffer, byte by byte.
-fn say_listed<W: Write>(output: &mut W, label: &str, listed: Listed, out: &[u8]) -> io::Result<()> {
+fn say_listed<W: Write>(
+    output: &mut W,
+    label: &str,
+    listed: Result<Listed, Refusal>,
+    out: &[u8],
+) -> io::Result<()> {
     match listed {
-        Listed::Given { bytes, records: _ } => {
+        Ok(listed) => {
             write!(output, "{label}:")?;
-            for byte in &out[..bytes.min(out.len())] {
+            for byte in &out[..listed.bytes.min(out.len())] {
                 write!(output, " {byte}")?;
             }
             writeln!(output)
         }
-        Listed::Refused(refusal) => writeln!(output, "{label}: {}", Shown(refusal)),
-    }
-}
-
-fn moment_of(moment: Option<u64>) -> Moment {
-    match moment {
-        Some(moment) => Moment::At(moment),
-        None => Moment::Never,
+        Err(refusal) => writeln!(output, "{label}: {}", Shown(refusal)),
     }
 }
 
@@ -77,7 +79,7 @@ impl<'a, W: Write> Case<'a, W> {
         handle: u32,
         moment: Option<u64>,
     ) -> io::Result<()> {
-        let changed = retain::set(self.store, name, payload, handle, moment_of(moment));
+        let changed = retain::set(self.store, name, payload, handle, moment);
         say_changed(self.output, label, changed)
     }
 
@@ -93,9 +95,8 @@ impl<'a, W: Write> Case<'a, W> {
     }
 
     pub fn count(&mut self) -> io::Result<()> {
-        match retain::count(self.store) {
-            Names::Held(names) => writeln!(self.output, "count: {}", names.0),
-            Names::Refused(refusal) => writeln!(self.output, "count: {}", Shown(refusal)),
-        }
+        let names = retain::count(self.store).map(|names| names.0);
+        write!(self.output, "count: ")?;
+        say_result(self.output, names)
     }
 }
