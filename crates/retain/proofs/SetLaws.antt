@@ -1,8 +1,9 @@
 -- Setting a record: what each answer rests on. Assumes nothing.
-use Rattle.std.specs.Prelude.{Err, Ok, Result}
+use Rattle.std.specs.Prelude.{Err, None, Ok, Option, Result, Some}
+use Rattle.std.proofs.lemmas.Option.{none-some}
 use Rattle.refusal.specs.declared.Refusal.{Refusal}
 use mathlib.Core.Path.{◌≡◌, refl, sym, ap, ◌∙◌}
-use mathlib.Core.Bool.{true, false, not, true≢false}
+use mathlib.Core.Bool.{true, not}
 use mathlib.Core.List.{List, [], ◌∷◌}
 use Prim.Native.Nat.{ℕ, ◌+◌, ◌-◌, ◌*◌, ◌≤◌, ◌<◌}
 use native.Mathlib.Omega.{arith}
@@ -44,11 +45,10 @@ use Rattle.edit.specs.Adding.{fitting, Added, no_fit, no-room, added, ChainAdded
 use Rattle.edit.proofs.LastLaws.{last_inside}
 use Rattle.edit.proofs.KnownPath.{stands, node_is}
 use Rattle.edit.proofs.Added.{none-missing, unit-more, unit-held, unit_swapped, load_fits, chain_more, chain_held}
-use Rattle.retain.specs.declared.Slot.{Slot}
 use Rattle.retain.specs.Slots.{slot_in}
 use Rattle.retain.specs.Units.{UnitOf}
 use Rattle.retain.specs.Calls.{held_in, retained_store}
-use Rattle.retain.proofs.SlotLaws.{here, own_held, slot-stored, slot_held, One, some-held, none-held}
+use Rattle.retain.proofs.SlotLaws.{here, own_held, slot-stored, One, some-held, none-held}
 use Rattle.retain.proofs.StepLaws.{set_refused, set_new, set_again}
 use Rattle.retain.proofs.StoredPath.{has_is, not-held, rooms_are, set-within, set_units}
 
@@ -69,10 +69,10 @@ module _ (s : List ℕ) {base n room : ℕ} (units : UnitsOf s base n room) (f :
     new_name (added z g) = set_new s st f x fine few (not-held s st f units few x absent) (rooms_are s st f units few x absent ∙ fits ∙ z) made (becomes z)
 
   -- the nodes are there
-  module _ (q : length f < p.from) {node : ℕ} (at : node ≡ get_or p.nodes (p.depth - 1) 0) {slot : Slot} (e : slot ≡ slot_in base s n node) where
-    pub record_broken : not slot.sound ≡ true → Does retained_store (set f 1 x) s s (Err NotAStore)
+  module _ (q : length f < p.from) {node : ℕ} (at : node ≡ get_or p.nodes (p.depth - 1) 0) {answer : Option (Result ℕ ℕ)} (e : answer ≡ slot_in base s n node) where
+    pub record_broken : answer ≡ None → Does retained_store (set f 1 x) s s (Err NotAStore)
     record_broken h =
-        record { does = λ (st : RetainedStore s). absurd (true≢false (sym h ∙ ap (λ (a : Slot). not a.sound) (e ∙ slot-stored s units f few pf q full st at))) }
+        record { does = λ (st : RetainedStore s). absurd (none-some _ (sym h ∙ e ∙ slot-stored s units f few pf q full st at)) }
 
     module _ (st : RetainedStore s) where
       abbrev F : Forest Stored
@@ -81,19 +81,16 @@ module _ (s : List ℕ) {base n room : ℕ} (units : UnitsOf s base n room) (f :
       abbrev place : ℕ
       place = ahead (here s units f few pf q full st).way + level_units (here s units f few pf q full st).level
 
-      place_is : slot.at ≡ place
-      place_is = ap (λ (a : Slot). a.at) (e ∙ slot-stored s units f few pf q full st at)
-
       own_now : values_at (split f) (hit [] F) ≡ (here s units f few pf q full st).own
       own_now = own_held s units f few pf q full st
 
       -- its record is replaced
-      over : One (here s units f few pf q full st).own → SmallStored x → Step retained_store (set f 1 x) s (patch (unit_at base slot.at) (stored_bytes x) s) (Ok 2)
+      over : {k : ℕ} → k ≡ place → One (here s units f few pf q full st).own → SmallStored x → Step retained_store (set f 1 x) s (patch (unit_at base k) (stored_bytes x) s) (Ok 2)
       unfolding set_f
-      over o small =
+      over {k} a o small =
           let h : has_filter (split f) (held_in s) ≡ true = has_is s st f ∙ ap (λ (v : List Stored). not (null v)) (own_now ∙ o.is) in
-          let z : slot.at ≡ place + 0 = omega (arith, place_is) in
-          set_again s st f x fine few h (patch (unit_at base slot.at) (stored_bytes x) s)
+          let z : k ≡ place + 0 = omega (arith, a) in
+          set_again s st f x fine few h (patch (unit_at base k) (stored_bytes x) s)
           (unit_swapped records 2 s units F (retained_holds s st) f few pf full (only x) q o.it x [] [] o.is refl small (set_text f F st.well x).1.full z)
 
       -- the node had none
@@ -117,28 +114,28 @@ module _ (s : List ℕ) {base n room : ℕ} (units : UnitsOf s base n room) (f :
         new_record : {t : List ℕ} {r : Result ℕ Refusal} → Added s n room 0 0 1 (made_unit base n (take (p.depth - 1) p.nodes) node (place + 0) (stored_bytes x) s) t r → Step retained_store (set f 1 x) s t r
         new_record a = new_name st absent 0 0 1 fits more _ becomes a
 
-      inside : One (here s units f few pf q full st).own → unit_at base slot.at + 16 ≤ length s
-      inside o =
-          omega (arith, place_is, last_inside records base s n F (stands records 2 s units F (retained_holds s st)) (split f) (here s units f few pf q full st), ap length o.is, units.within, units.long, units.base_is)
+      inside : {k : ℕ} → k ≡ place → One (here s units f few pf q full st).own → unit_at base k + 16 ≤ length s
+      inside a o =
+          omega (arith, a, last_inside records base s n F (stands records 2 s units F (retained_holds s st)) (split f) (here s units f few pf q full st), ap length o.is, units.within, units.long, units.base_is)
 
-    pub record_over : slot.held ≡ true → {unit : List ℕ} → UnitOf x unit → {t : List ℕ} → t ≡ write (base + slot.at * 16) unit s → Does retained_store (set f 1 x) s t (Ok 2)
-    record_over h w {t} z =
+    pub record_over : {slot : Result ℕ ℕ} → answer ≡ Some slot → {k : ℕ} → slot ≡ Ok k → {unit : List ℕ} → UnitOf x unit → {t : List ℕ} → t ≡ write (base + k * 16) unit s → Does retained_store (set f 1 x) s t (Ok 2)
+    record_over g {k} h w {t} z =
         record {
           does = λ (st : RetainedStore s).
-              let o = some-held (slot_held s units f few pf q full st at e) h in
-              let i : base + slot.at * 16 + length (stored_bytes x) ≤ length s = rw (stored_long x) (inside st o) in
-              let y : t ≡ patch (unit_at base slot.at) (stored_bytes x) s = z ∙ ap (λ (v : List ℕ). write (base + slot.at * 16) v s) w.is ∙ write_in (base + slot.at * 16) (stored_bytes x) s i in
-              rw y (over st o (stored_small x w.back));
+              let o = some-held s units f few pf q full st at e g h in
+              let i : base + k * 16 + length (stored_bytes x) ≤ length s = rw (stored_long x) (inside st o.0 o.1) in
+              let y : t ≡ patch (unit_at base k) (stored_bytes x) s = z ∙ ap (λ (v : List ℕ). write (base + k * 16) v s) w.is ∙ write_in (base + k * 16) (stored_bytes x) s i in
+              rw y (over st o.0 o.1 (stored_small x w.back));
         }
 
-    pub record_added : slot.held ≡ false → {unit : List ℕ} → UnitOf x unit → {t : List ℕ} {r : Result ℕ Refusal}
-        → Added s n room 0 0 1 (made_unit base n (take (p.depth - 1) p.nodes) node slot.at unit s) t r → Does retained_store (set f 1 x) s t r
-    record_added h w d =
+    pub record_added : {slot : Result ℕ ℕ} → answer ≡ Some slot → {k : ℕ} → slot ≡ Err k → {unit : List ℕ} → UnitOf x unit → {t : List ℕ} {r : Result ℕ Refusal}
+        → Added s n room 0 0 1 (made_unit base n (take (p.depth - 1) p.nodes) node k unit s) t r → Does retained_store (set f 1 x) s t r
+    record_added g {k} h w d =
         record {
           does = λ (st : RetainedStore s).
-              let o = none-held (slot_held s units f few pf q full st at e) h in
-              let m : slot.at ≡ place st + 0 = omega (arith, place_is st) in
-              new_record st o (stored_small x w.back) (rw (m, w.is) at d);
+              let o = none-held s units f few pf q full st at e g h in
+              let m : k ≡ place st + 0 = omega (arith, o.0) in
+              new_record st o.1 (stored_small x w.back) (rw (m, w.is) at d);
         }
 
   -- some nodes are missing

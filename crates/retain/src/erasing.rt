@@ -32,17 +32,16 @@ fn erase_record(
     let depth = p.depth;
     let last = depth - 1;
     let node = nodes[last];
-    let slot = slots::slot_of(s, base, n, node);
-    if !slot.sound {
+    let Some(slot) = slots::slot_of(s, base, n, node) else {
         return Err(Refusal::NotAStore);
-    }
-    if !slot.held {
+    };
+    let Ok(at) = slot else {
         return Ok(NOT_HELD);
-    }
+    };
     if edit::is_alone(s, base, n, node) {
         return edit::take_path(s, base, n, nodes, depth, name, ERASED);
     }
-    edit::take_unit(s, base, n, nodes, last, node, slot.at, ERASED)
+    edit::take_unit(s, base, n, nodes, last, node, at, ERASED)
 }
 
 // Of a name of at most 128 levels.

@@ -22,11 +22,3 @@ pub struct Page {
     pub records: usize,
     pub more: bool,
 }
-
-// The unit of a node's record, if it has one, else the unit before which it would go; and whether the node's row is a store's.
-#[derive(Clone, Copy)]
-pub struct Slot {
-    pub at: usize,
-    pub held: bool,
-    pub sound: bool,
-}

@@ -31,16 +31,17 @@ fn set_record(
     let nodes = p.nodes;
     let last = p.depth - 1;
     let node = nodes[last];
-    let slot = slots::slot_of(s, base, n, node);
-    if !slot.sound {
+    let Some(slot) = slots::slot_of(s, base, n, node) else {
         return Err(Refusal::NotAStore);
-    }
+    };
     let unit = units::unit_of(handle, moment);
-    if slot.held {
-        lent::copy_in(s, base + slot.at * 16, &unit);
-        return Ok(2);
+    match slot {
+        Ok(at) => {
+            lent::copy_in(s, base + at * 16, &unit);
+            Ok(2)
+        }
+        Err(at) => edit::add_unit(s, base, n, room, nodes, last, node, at, &unit),
     }
-    edit::add_unit(s, base, n, room, nodes, last, node, slot.at, &unit)
 }
 
 // Of a name of at most 128 levels.

@@ -1,8 +1,9 @@
 -- Inserting a value: what each answer rests on. Assumes nothing.
-use Rattle.std.specs.Prelude.{Err, Ok, Result}
+use Rattle.std.specs.Prelude.{Err, None, Ok, Option, Result, Some}
+use Rattle.std.proofs.lemmas.Option.{none-some, same_Some}
 use Rattle.refusal.specs.declared.Refusal.{Refusal}
 use mathlib.Core.Path.{◌≡◌, refl, sym, ap, ◌∙◌}
-use mathlib.Core.Bool.{true, false, not, true≢false}
+use mathlib.Core.Bool.{false}
 use mathlib.Core.List.{List, []}
 use Prim.Native.Nat.{ℕ, ◌+◌, ◌-◌, ◌^◌, ◌≤◌, ◌<◌}
 use native.Mathlib.Omega.{arith}
@@ -40,14 +41,13 @@ use Rattle.edit.specs.Calls.{Step, Does}
 use Rattle.edit.specs.Adding.{fitting, Added, no_fit, no-room, added, ChainAdded}
 use Rattle.edit.proofs.KnownPath.{stands, own_is, node_is}
 use Rattle.edit.proofs.Added.{none-missing, unit-more, unit-held, load_fits, chain_more, chain_held}
-use Rattle.trie.specs.declared.Slot.{Slot}
 use Rattle.trie.specs.Values.{spot_from}
 use Rattle.trie.specs.Slots.{slot_at, slot_in}
 use Rattle.trie.specs.Calls.{subscription_store}
 use Rattle.trie.proofs.ValueLaws.{Apart, spot_among, spot_apart}
 use Rattle.trie.proofs.StepLaws.{insert_refused, insert_there, insert_new}
 use Rattle.trie.proofs.StoredPath.{held_is, rooms_are, inserted-within, inserted_units}
-use Rattle.trie.proofs.StoredSlot.{here, own_asc, slot-stored}
+use Rattle.trie.proofs.StoredSlot.{here, own_asc, slot_taken, slot_free, slot-stored}
 
 module _ (s : List ℕ) {base n room : ℕ} (units : UnitsOf s base n room) (f : List ℕ) (fine : checked (filter_rules f) ≡ Ok tt) (few : length (split f) ≤ 128) {p : Path} (pf : PathFound base s n f p)
     (full : length p.nodes ≡ 128) where
@@ -62,32 +62,14 @@ module _ (s : List ℕ) {base n room : ℕ} (units : UnitsOf s base n room) (f :
     new-pair (added z g) = insert_new s st f x fine few (held_is s st f x ∙ absent) (rooms_are s st f units fine few x absent ∙ fits ∙ z) made (becomes z)
 
   -- the nodes are there
-  module _ (q : length f < p.from) (x : ℕ) {node : ℕ} (at : node ≡ get_or p.nodes (p.depth - 1) 0) {slot : Slot} (e : slot ≡ slot_in base s n node x) where
-    stored : (st : SubscriptionStore s) → slot ≡ slot_at (ahead (here s units f few pf q full st).way + level_units (here s units f few pf q full st).level) (spot_from 0 x (here s units f few pf q full st).own)
-    stored st = e ∙ slot-stored s units f few pf q full st x at
-
+  module _ (q : length f < p.from) (x : ℕ) {node : ℕ} (at : node ≡ get_or p.nodes (p.depth - 1) 0) where
     own_held : (st : SubscriptionStore s) → values_at (split f) (hit [] (forest_at value_of s)) ≡ (here s units f few pf q full st).own
     own_held st = own_is values 1 s units (forest_at value_of s) (store_holds s st) f few pf q
 
-    pub value_broken : not slot.sound ≡ true → Does subscription_store (insert f x) s s (Err NotAStore)
-    value_broken h = record { does = λ (st : SubscriptionStore s). absurd (true≢false (sym h ∙ ap (λ (a : Slot). not a.sound) (stored st))) }
-
-    pub value_there : slot.held ≡ true → Does subscription_store (insert f x) s s (Ok 0)
-    value_there h =
-        record {
-          does = λ (st : SubscriptionStore s).
-              let g = sym (ap (λ (a : Slot). a.held) (stored st)) ∙ h in
-              let r = spot_among x (here s units f few pf q full st).own (own_asc s units f few pf q full st) g in
-              insert_there s st f x fine few (held_is s st f x ∙ ap (member eqb x) (own_held st) ∙ r.present);
-        }
-
     -- a value that is not there yet
-    module _ (st : SubscriptionStore s) (small : x < 256 ^ 4) (h : (spot_from 0 x (here s units f few pf q full st).own).held ≡ false) where
+    module _ (st : SubscriptionStore s) (small : x < 256 ^ 4) {k : ℕ} (apart : Apart x (here s units f few pf q full st).own k) where
       abbrev F : Forest ℕ
       F = forest_at value_of s
-
-      apart : Apart x (here s units f few pf q full st).own (spot_from 0 x (here s units f few pf q full st).own).at
-      apart = spot_apart x (here s units f few pf q full st).own (own_asc s units f few pf q full st) h
 
       absent : member eqb x (values_at (split f) (hit [] F)) ≡ false
       absent = ap (member eqb x) (own_held st) ∙ apart.absent
@@ -104,26 +86,43 @@ module _ (s : List ℕ) {base n room : ℕ} (units : UnitsOf s base n room) (f :
       unfolding insert_f
       more = unit-more values 1 s units F (store_holds s st) f few pf full (with_value x) q x apart.before apart.after apart.all apart.with
 
-      becomes : fitting s 0 0 ≡ Ok tt → Becomes values 1 s (made_unit base n (take (p.depth - 1) p.nodes) node (units_for + (spot_from 0 x (here s units f few pf q full st).own).at) (value_bytes x) s) (insert_f (split f) x F)
+      becomes : fitting s 0 0 ≡ Ok tt → Becomes values 1 s (made_unit base n (take (p.depth - 1) p.nodes) node (units_for + k) (value_bytes x) s) (insert_f (split f) x F)
       unfolding insert_f
       becomes z =
           let i = insert_text f (ap accepted fine) x F st.well in
           rw apart.count at (unit-held values 1 s units F (store_holds s st) f few pf full (with_value x) q x apart.before apart.after apart.all apart.with small i.1.full
           (inserted-within s st f units fine few x absent (fits ∙ z)) (at ∙ node_is values 1 s units F (store_holds s st) f few pf q full))
 
-      new_value : {t : List ℕ} {r : Result ℕ Refusal} → Added s n room 0 0 1 (made_unit base n (take (p.depth - 1) p.nodes) node (units_for + (spot_from 0 x (here s units f few pf q full st).own).at) (value_bytes x) s) t r
+      new_value : {t : List ℕ} {r : Result ℕ Refusal} → Added s n room 0 0 1 (made_unit base n (take (p.depth - 1) p.nodes) node (units_for + k) (value_bytes x) s) t r
           → Step subscription_store (insert f x) s t r
       new_value a = new-pair st x absent 0 0 1 fits more _ becomes a
 
-    pub value_added : slot.held ≡ false → x < 256 ^ 4 → {unit : List ℕ} → unit ≡ value_bytes x → {t : List ℕ} {r : Result ℕ Refusal}
-        → Added s n room 0 0 1 (made_unit base n (take (p.depth - 1) p.nodes) node slot.at unit s) t r → Does subscription_store (insert f x) s t r
-    value_added h small eu d =
-        record {
-          does = λ (st : SubscriptionStore s).
-              let k = sym (ap (λ (a : Slot). a.held) (stored st)) ∙ h in
-              let m = ap (λ (a : Slot). a.at) (stored st) in
-              new_value st small k (rw (m, eu) at d);
-        }
+    module _ {answer : Option (Result ℕ ℕ)} (e : answer ≡ slot_in base s n node x) where
+      pub value_broken : answer ≡ None → Does subscription_store (insert f x) s s (Err NotAStore)
+      value_broken h = record { does = λ (st : SubscriptionStore s). absurd (none-some _ (sym h ∙ e ∙ slot-stored s units f few pf q full st x at)) }
+
+      module _ {slot : Result ℕ ℕ} (g : answer ≡ Some slot) where
+        stored : (st : SubscriptionStore s) → slot ≡ slot_at (ahead (here s units f few pf q full st).way + level_units (here s units f few pf q full st).level) (spot_from 0 x (here s units f few pf q full st).own)
+        stored st = same_Some _ _ (sym g ∙ e ∙ slot-stored s units f few pf q full st x at)
+
+        pub value_there : {k : ℕ} → slot ≡ Ok k → Does subscription_store (insert f x) s s (Ok 0)
+        value_there h =
+            record {
+              does = λ (st : SubscriptionStore s).
+                  let i = slot_taken _ (spot_from 0 x (here s units f few pf q full st).own) (sym (stored st) ∙ h) in
+                  let r = spot_among x (here s units f few pf q full st).own (own_asc s units f few pf q full st) i.1 in
+                  insert_there s st f x fine few (held_is s st f x ∙ ap (member eqb x) (own_held st) ∙ r.present);
+            }
+
+        pub value_added : {k : ℕ} → slot ≡ Err k → x < 256 ^ 4 → {unit : List ℕ} → unit ≡ value_bytes x → {t : List ℕ} {r : Result ℕ Refusal}
+            → Added s n room 0 0 1 (made_unit base n (take (p.depth - 1) p.nodes) node k unit s) t r → Does subscription_store (insert f x) s t r
+        value_added h small eu d =
+            record {
+              does = λ (st : SubscriptionStore s).
+                  let i = slot_free _ (spot_from 0 x (here s units f few pf q full st).own) (sym (stored st) ∙ h) in
+                  let a = spot_apart x (here s units f few pf q full st).own (own_asc s units f few pf q full st) i.1 in
+                  new_value st small a (rw (i.2, eu) at d);
+            }
 
   -- some nodes are missing
   module _ (size : length f ≤ 65535) (q : p.from ≤ length f) (x : ℕ) (small : x < 256 ^ 4) where

@@ -1,14 +1,15 @@
 -- Removing a value: what each answer rests on. Assumes nothing.
-use Rattle.std.specs.Prelude.{Err, Ok, Result}
+use Rattle.std.specs.Prelude.{Err, None, Ok, Option, Result, Some}
+use Rattle.std.proofs.lemmas.Option.{none-some, same_Some}
 use Rattle.refusal.specs.declared.Refusal.{Refusal}
 use mathlib.Core.Path.{◌≡◌, refl, sym, ap, ◌∙◌}
-use mathlib.Core.Bool.{Bool, true, false, not, true≢false}
+use mathlib.Core.Bool.{Bool, true, false, not}
 use mathlib.Core.List.{List, [], ◌∷◌, ◌++◌}
 use Prim.Native.Nat.{ℕ, ◌+◌, ◌-◌, ◌≤◌, ◌<◌}
 use native.Mathlib.Omega.{arith}
 use lib.Dec.{eqb}
 use lib.ListN.{length, take, get_or, length-append}
-use borrow.Author.Tests.{eq-eqb, not-true, not-false}
+use borrow.Author.Tests.{eq-eqb}
 use Rattle.refusal.specs.declared.Refusal.TheVariants.{NotAStore}
 use Rattle.level.specs.Levels.{split}
 use Rattle.topic.specs.Rules.{filter_rules}
@@ -37,14 +38,13 @@ use Rattle.edit.specs.Calls.{Step, Does}
 use Rattle.edit.specs.Taking.{alone_in, PathTaken, OneLess}
 use Rattle.edit.proofs.KnownPath.{own_is, node_is}
 use Rattle.edit.proofs.Taken.{cut-within, alone_own, not_alone, unit-gone, path-gone}
-use Rattle.trie.specs.declared.Slot.{Slot}
 use Rattle.trie.specs.Values.{spot_from}
 use Rattle.trie.specs.Slots.{slot_at, slot_in}
 use Rattle.trie.specs.Calls.{held_in, subscription_store}
 use Rattle.trie.proofs.ValueLaws.{Among, spot_among, spot_apart}
 use Rattle.trie.proofs.StepLaws.{remove-none, remove_done}
 use Rattle.trie.proofs.StoredPath.{held_is}
-use Rattle.trie.proofs.StoredSlot.{here, own_asc, slot-stored}
+use Rattle.trie.proofs.StoredSlot.{here, own_asc, slot_taken, slot_free, slot-stored}
 
 one_of : (a b : List ℕ) (x : ℕ) → length (a ++ (x ∷ b)) ≡ 1 → (a ≡ []) × (b ≡ [])
 one_of [] [] x h = (refl, refl)
@@ -68,66 +68,68 @@ module _ (s : List ℕ) (st : SubscriptionStore s) (f : List ℕ) (fine : checke
       (omega (arith, ap length i.0, length-keep (λ (q : Filter × ℕ). not (same_pair (split f, x) q)) (held_in s)))
 
 module _ (s : List ℕ) {base n room : ℕ} (units : UnitsOf s base n room) (f : List ℕ) (fine : checked (filter_rules f) ≡ Ok tt) (few : length (split f) ≤ 128) {p : Path} (pf : PathFound base s n f p)
-    (q : length f < p.from) (full : length p.nodes ≡ 128) (x : ℕ) {node : ℕ} (at : node ≡ get_or p.nodes (p.depth - 1) 0) {slot : Slot} (e : slot ≡ slot_in base s n node x) where
-  stored : (st : SubscriptionStore s) → slot ≡ slot_at (ahead (here s units f few pf q full st).way + level_units (here s units f few pf q full st).level) (spot_from 0 x (here s units f few pf q full st).own)
-  stored st = e ∙ slot-stored s units f few pf q full st x at
-
-  held_so : (st : SubscriptionStore s) (t : Bool) → slot.held ≡ t → (spot_from 0 x (here s units f few pf q full st).own).held ≡ t
-  held_so st t z = sym (ap (λ (a : Slot). a.held) (stored st)) ∙ z
-
+    (q : length f < p.from) (full : length p.nodes ≡ 128) (x : ℕ) {node : ℕ} (at : node ≡ get_or p.nodes (p.depth - 1) 0) where
   own_held : (st : SubscriptionStore s) → values_at (split f) (hit [] (forest_at value_of s)) ≡ (here s units f few pf q full st).own
   own_held st = own_is values 1 s units (forest_at value_of s) (store_holds s st) f few pf q
 
-  pub gone_broken : not slot.sound ≡ true → Does subscription_store (remove f x) s s (Err NotAStore)
-  gone_broken h = record { does = λ (st : SubscriptionStore s). absurd (true≢false (sym h ∙ ap (λ (a : Slot). not a.sound) (stored st))) }
+  module _ {answer : Option (Result ℕ ℕ)} (e : answer ≡ slot_in base s n node x) where
+    pub gone_broken : answer ≡ None → Does subscription_store (remove f x) s s (Err NotAStore)
+    gone_broken h = record { does = λ (st : SubscriptionStore s). absurd (none-some _ (sym h ∙ e ∙ slot-stored s units f few pf q full st x at)) }
 
-  pub gone_absent : not slot.held ≡ true → Does subscription_store (remove f x) s s (Ok 0)
-  gone_absent h =
-      record {
-        does = λ (st : SubscriptionStore s).
-            let g = held_so st false (not-true slot.held h) in
-            let a = spot_apart x (here s units f few pf q full st).own (own_asc s units f few pf q full st) g in
-            remove-none s st f x fine (held_is s st f x ∙ ap (member eqb x) (own_held st) ∙ a.absent);
-      }
+    module _ {slot : Result ℕ ℕ} (g : answer ≡ Some slot) where
+      stored : (st : SubscriptionStore s) → slot ≡ slot_at (ahead (here s units f few pf q full st).way + level_units (here s units f few pf q full st).level) (spot_from 0 x (here s units f few pf q full st).own)
+      stored st = same_Some _ _ (sym g ∙ e ∙ slot-stored s units f few pf q full st x at)
 
-  module _ (h : not slot.held ≡ false) {b : Bool} (eb : b ≡ alone_in base s n node) where
-    module _ (st : SubscriptionStore s) where
-      abbrev F : Forest ℕ
-      F = forest_at value_of s
+      pub gone_absent : {k : ℕ} → slot ≡ Err k → Does subscription_store (remove f x) s s (Ok 0)
+      gone_absent h =
+          record {
+            does = λ (st : SubscriptionStore s).
+                let i = slot_free _ (spot_from 0 x (here s units f few pf q full st).own) (sym (stored st) ∙ h) in
+                let a = spot_apart x (here s units f few pf q full st).own (own_asc s units f few pf q full st) i.1 in
+                remove-none s st f x fine (held_is s st f x ∙ ap (member eqb x) (own_held st) ∙ a.absent);
+          }
 
-      among : Among x (here s units f few pf q full st).own (spot_from 0 x (here s units f few pf q full st).own).at
-      among = spot_among x (here s units f few pf q full st).own (own_asc s units f few pf q full st) (held_so st true (not-false slot.held h))
+      module _ {k : ℕ} (h : slot ≡ Ok k) {b : Bool} (eb : b ≡ alone_in base s n node) where
+        module _ (st : SubscriptionStore s) where
+          abbrev F : Forest ℕ
+          F = forest_at value_of s
 
-      is-held : is_held (split f, x) (held_in s) ≡ true
-      is-held = held_is s st f x ∙ ap (member eqb x) (own_held st) ∙ among.present
+          place : (i : ℕ) × (spot_from 0 x (here s units f few pf q full st).own ≡ Ok i) × (k ≡ ahead (here s units f few pf q full st).way + level_units (here s units f few pf q full st).level + i)
+          place = slot_taken _ (spot_from 0 x (here s units f few pf q full st).own) (sym (stored st) ∙ h)
 
-      done : (t : List ℕ) → Becomes values 1 s t (cut_f (without_value x) (split f) F) → Step subscription_store (remove f x) s t (Ok 1)
-      unfolding remove_f
-      done t c = remove_done s st f x fine is-held t c
+          among : Among x (here s units f few pf q full st).own place.0
+          among = spot_among x (here s units f few pf q full st).own (own_asc s units f few pf q full st) place.1
 
-      -- the only value, of a node without children
-      path_step : b ≡ true → {t : List ℕ} {r : Result ℕ Refusal} → PathTaken s base n p.nodes p.depth f 1 t r → Step subscription_store (remove f x) s t r
-      path_step z {t} {r} a =
-          let c = alone_own values 1 s units F (store_holds s st) f few pf full q at (sym eb ∙ z) in
-          let o = one_of among.before among.after x (sym (ap length among.all) ∙ c.0) in
-          let one : (here s units f few pf q full st).own ≡ x ∷ [] = among.all ∙ rw (o.0, o.1) in
-          path-gone values 1 s units F (store_holds s st) f few pf full q (without_value x) (removed_full s st f fine x) (removed-within s st f fine x) x one c.1 (without_one x)
-          (λ (t : List ℕ) (r : Result ℕ Refusal). Step subscription_store (remove f x) s t r) done a
+          is-held : is_held (split f, x) (held_in s) ≡ true
+          is-held = held_is s st f x ∙ ap (member eqb x) (own_held st) ∙ among.present
 
-      -- one of several, or of a node with children
-      others : b ≡ false → among.before ++ among.after ≡ [] → (here s units f few pf q full st).kids ≡ leaf → ⊥
-      others z u v =
-          let c : length (here s units f few pf q full st).own ≡ 1 = omega (arith, ap length among.all, length-append among.before (x ∷ among.after), ap length u, length-append among.before among.after) in
-          not_alone values 1 s units F (store_holds s st) f few pf full q at (sym eb ∙ z) c v
+          done : (t : List ℕ) → Becomes values 1 s t (cut_f (without_value x) (split f) F) → Step subscription_store (remove f x) s t (Ok 1)
+          unfolding remove_f
+          done t c = remove_done s st f x fine is-held t c
 
-      unit_step : b ≡ false → {t : List ℕ} {r : Result ℕ Refusal} → OneLess s base n (take (p.depth - 1) p.nodes) node slot.at 1 t r → Step subscription_store (remove f x) s t r
-      unit_step z a =
-          let w : slot.at ≡ ahead (here s units f few pf q full st).way + level_units (here s units f few pf q full st).level + length among.before = omega (arith, ap (λ (c : Slot). c.at) (stored st), among.count) in
-          unit-gone values 1 s units F (store_holds s st) f few pf full q (without_value x) (removed_full s st f fine x) (removed-within s st f fine x) x among.before among.after among.all among.without (others z)
-          (λ (t : List ℕ) (r : Result ℕ Refusal). Step subscription_store (remove f x) s t r) done (at ∙ node_is values 1 s units F (store_holds s st) f few pf q full) w a
+          -- the only value, of a node without children
+          path_step : b ≡ true → {t : List ℕ} {r : Result ℕ Refusal} → PathTaken s base n p.nodes p.depth f 1 t r → Step subscription_store (remove f x) s t r
+          path_step z {t} {r} a =
+              let c = alone_own values 1 s units F (store_holds s st) f few pf full q at (sym eb ∙ z) in
+              let o = one_of among.before among.after x (sym (ap length among.all) ∙ c.0) in
+              let one : (here s units f few pf q full st).own ≡ x ∷ [] = among.all ∙ rw (o.0, o.1) in
+              path-gone values 1 s units F (store_holds s st) f few pf full q (without_value x) (removed_full s st f fine x) (removed-within s st f fine x) x one c.1 (without_one x)
+              (λ (t : List ℕ) (r : Result ℕ Refusal). Step subscription_store (remove f x) s t r) done a
 
-    pub gone_path : b ≡ true → {t : List ℕ} {r : Result ℕ Refusal} → PathTaken s base n p.nodes p.depth f 1 t r → Does subscription_store (remove f x) s t r
-    gone_path z a = record { does = λ (st : SubscriptionStore s). path_step st z a }
+          -- one of several, or of a node with children
+          others : b ≡ false → among.before ++ among.after ≡ [] → (here s units f few pf q full st).kids ≡ leaf → ⊥
+          others z u v =
+              let c : length (here s units f few pf q full st).own ≡ 1 = omega (arith, ap length among.all, length-append among.before (x ∷ among.after), ap length u, length-append among.before among.after) in
+              not_alone values 1 s units F (store_holds s st) f few pf full q at (sym eb ∙ z) c v
 
-    pub gone_unit : b ≡ false → {t : List ℕ} {r : Result ℕ Refusal} → OneLess s base n (take (p.depth - 1) p.nodes) node slot.at 1 t r → Does subscription_store (remove f x) s t r
-    gone_unit z a = record { does = λ (st : SubscriptionStore s). unit_step st z a }
+          unit_step : b ≡ false → {t : List ℕ} {r : Result ℕ Refusal} → OneLess s base n (take (p.depth - 1) p.nodes) node k 1 t r → Step subscription_store (remove f x) s t r
+          unit_step z a =
+              let w : k ≡ ahead (here s units f few pf q full st).way + level_units (here s units f few pf q full st).level + length among.before = omega (arith, place.2, among.count) in
+              unit-gone values 1 s units F (store_holds s st) f few pf full q (without_value x) (removed_full s st f fine x) (removed-within s st f fine x) x among.before among.after among.all among.without (others z)
+              (λ (t : List ℕ) (r : Result ℕ Refusal). Step subscription_store (remove f x) s t r) done (at ∙ node_is values 1 s units F (store_holds s st) f few pf q full) w a
+
+        pub gone_path : b ≡ true → {t : List ℕ} {r : Result ℕ Refusal} → PathTaken s base n p.nodes p.depth f 1 t r → Does subscription_store (remove f x) s t r
+        gone_path z a = record { does = λ (st : SubscriptionStore s). path_step st z a }
+
+        pub gone_unit : b ≡ false → {t : List ℕ} {r : Result ℕ Refusal} → OneLess s base n (take (p.depth - 1) p.nodes) node k 1 t r → Does subscription_store (remove f x) s t r
+        gone_unit z a = record { does = λ (st : SubscriptionStore s). unit_step st z a }

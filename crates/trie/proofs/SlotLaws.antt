@@ -1,13 +1,11 @@
 -- The slot of a value, from the row that was read. Assumes nothing.
+use Rattle.std.specs.Prelude.{None, Some, Err, Ok}
 use mathlib.Core.Path.{◌≡◌, ◌∙◌}
-use mathlib.Core.Bool.{true, false}
 use mathlib.Core.List.{List}
 use Prim.Native.Nat.{ℕ, ◌+◌, ◌-◌, ◌/◌, ◌≤◌, ◌<◌}
 use borrow.Author.Tests.{lt-ltb, le-ltb}
 use Rattle.forest.specs.declared.Row.{Row}
 use Rattle.forest.specs.Places.{level_units_at, row_end, RowAt}
-use Rattle.trie.specs.declared.Spot.{Spot}
-use Rattle.trie.specs.declared.Slot.{Slot}
 use Rattle.trie.specs.Values.{values_from, spot_from}
 use Rattle.trie.specs.Slots.{slot_in}
 
@@ -18,11 +16,15 @@ module _ (base : ℕ) (s : List ℕ) (n node x : ℕ) {row : Row} (r : RowAt bas
   end_is : end ≡ row_end base s node n
   end_is = ee ∙ r.end_is
 
-  pub slot_broken : end < first → ◌≡◌ {A = Slot} (record { at = 0; held = false; sound = false }) (slot_in base s n node x)
+  pub slot_broken : end < first → None ≡ slot_in base s n node x
   unfolding slot_in
   slot_broken h = rw (← first_is, ← end_is, lt-ltb end first h)
 
-  module _ (h : first ≤ end) {spot : Spot} (es : spot ≡ spot_from 0 x (values_from base s first (end - first))) where
-    pub slot_sound : ◌≡◌ {A = Slot} (record { at = first + spot.at; held = spot.held; sound = true }) (slot_in base s n node x)
+  module _ (h : first ≤ end) {k : ℕ} where
+    pub slot_found : Ok k ≡ spot_from 0 x (values_from base s first (end - first)) → Some (Ok (first + k)) ≡ slot_in base s n node x
     unfolding slot_in
-    slot_sound = rw (← first_is, ← end_is, le-ltb end first h, ← es)
+    slot_found es = rw (← first_is, ← end_is, le-ltb end first h, ← es)
+
+    pub slot_missed : Err k ≡ spot_from 0 x (values_from base s first (end - first)) → Some (Err (first + k)) ≡ slot_in base s n node x
+    unfolding slot_in
+    slot_missed es = rw (← first_is, ← end_is, le-ltb end first h, ← es)

@@ -1,6 +1,6 @@
 -- The turns of the search for a value. Assumes nothing.
+use Rattle.std.specs.Prelude.{Err, Ok}
 use mathlib.Core.Path.{◌≡◌, refl, sym, ap, ◌∙◌}
-use mathlib.Core.Bool.{true, false}
 use mathlib.Core.List.{List, [], ◌∷◌}
 use Prim.Native.Nat.{ℕ, zero, suc, ◌+◌, ◌-◌, ◌*◌, ◌/◌, ◌%◌, ◌≤◌, ◌<◌}
 use native.Mathlib.Omega.{arith}
@@ -11,7 +11,6 @@ use Rattle.lent.specs.Numbers.{bytes}
 use Rattle.lent.specs.Total.{read}
 use Rattle.region.specs.Units.{value_bytes}
 use Rattle.forest.specs.Places.{unit_at}
-use Rattle.trie.specs.declared.Spot.{Spot}
 use Rattle.trie.specs.Values.{values_from, spot_from}
 
 values_some : (base : ℕ) (s : List ℕ) (i n : ℕ) → 0 < n → values_from base s i n ≡ read 4 (unit_at base i) s ∷ values_from base s (i + 1) (n - 1)
@@ -30,15 +29,15 @@ spot_on : (k x v : ℕ) (vs : List ℕ) → v < x → spot_from k x (v ∷ vs) �
 unfolding spot_from
 spot_on k x v vs h = rw (lt-ltb v x h, add-one)
 
-spot_here : (k x v : ℕ) (vs : List ℕ) → v ≡ x → spot_from k x (v ∷ vs) ≡ record { at = k; held = true }
+spot_here : (k x v : ℕ) (vs : List ℕ) → v ≡ x → spot_from k x (v ∷ vs) ≡ Ok k
 unfolding spot_from
 spot_here k x v vs e = rw (le-ltb v x (omega (arith, e)), eq-eqb v x e)
 
-spot_past : (k x v : ℕ) (vs : List ℕ) → x < v → spot_from k x (v ∷ vs) ≡ record { at = k; held = false }
+spot_past : (k x v : ℕ) (vs : List ℕ) → x < v → spot_from k x (v ∷ vs) ≡ Err k
 unfolding spot_from
 spot_past k x v vs h = rw (le-ltb v x (omega arith), ne_eqb v x (λ (e : v ≡ x). omega (arith, e)))
 
-spot-none : (k x : ℕ) → spot_from k x [] ≡ record { at = k; held = false }
+spot-none : (k x : ℕ) → spot_from k x [] ≡ Err k
 unfolding spot_from
 spot-none k x = refl
 
@@ -60,10 +59,10 @@ module _ (base : ℕ) (s : List ℕ) (i own x k : ℕ) (r : SpotLeft base s i ow
         let b : own - k - 1 ≡ own - (k + 1) = omega arith in
         values_some base s (i + k) (own - k) (omega arith) ∙ rw (a, b, ← e)
 
-    pub spot_found : v ≤ x → x ≤ v → ◌≡◌ {A = Spot} (record { at = k; held = true }) (spot_from 0 x (values_from base s i own))
+    pub spot_found : v ≤ x → x ≤ v → Ok k ≡ spot_from 0 x (values_from base s i own)
     spot_found p q = sym (spot_here k x v (values_from base s (i + (k + 1)) (own - (k + 1))) (omega arith)) ∙ ap (spot_from k x) (sym first) ∙ r.same
 
-    pub spot_before : x < v → ◌≡◌ {A = Spot} (record { at = k; held = false }) (spot_from 0 x (values_from base s i own))
+    pub spot_before : x < v → Err k ≡ spot_from 0 x (values_from base s i own)
     spot_before q = sym (spot_past k x v (values_from base s (i + (k + 1)) (own - (k + 1))) q) ∙ ap (spot_from k x) (sym first) ∙ r.same
 
     pub spot_again : v < x → SpotLeft base s i own x (k + 1)
@@ -73,7 +72,7 @@ module _ (base : ℕ) (s : List ℕ) (i own x k : ℕ) (r : SpotLeft base s i ow
           on = omega arith;
         }
 
-  pub spot_end : own ≤ k → ◌≡◌ {A = Spot} (record { at = k; held = false }) (spot_from 0 x (values_from base s i own))
+  pub spot_end : own ≤ k → Err k ≡ spot_from 0 x (values_from base s i own)
   spot_end h = sym (spot-none k x) ∙ ap (spot_from k x) (sym (values-none base s (i + k) (own - k) (omega arith))) ∙ r.same
 
 -- the unit of a value, byte by byte

@@ -1,5 +1,7 @@
 -- What the code reads of the last node of a filter that is there in a store: the slot of a value among those that it holds.
 -- Assumes nothing.
+use Rattle.std.specs.Prelude.{Some, Result, Ok, Err, ⊤}
+use Rattle.std.proofs.lemmas.Result.{MatchResult-at_ok, MatchResult-at_err}
 use mathlib.Core.Path.{◌≡◌, refl, sym, ap, ◌∙◌}
 use mathlib.Core.List.{List, [], ◌∷◌}
 use Prim.Native.Nat.{ℕ, suc, ◌+◌, ◌-◌, ◌*◌, ◌^◌, ◌≤◌, ◌<◌, min}
@@ -59,9 +61,18 @@ values-read base s i (x ∷ v) a h l =
     sym (drop-part_at (unit_at base i) 16 (length v * 16) s) ∙ ap (drop 16) (rw e at h) ∙ drop_at (value_bytes x) (each value_bytes v) 16 (value_long x) in
     rw (value_at (unit_at base i) x s a.0 one (omega arith), values-read base s (suc i) v a.1 (rw q at more) (omega arith))
 
+-- a slot that holds the value, and one where it would go
+pub slot_taken : (first : ℕ) (p : Result ℕ ℕ) {k : ℕ} → slot_at first p ≡ Ok k → (i : ℕ) × (p ≡ Ok i) × (k ≡ first + i)
+slot_taken first (Ok i) {k} e = (i, refl, MatchResult-at_ok (λ (j : ℕ). j ≡ first + i) (λ (j : ℕ). ⊥) k e refl)
+slot_taken first (Err i) {k} e = absurd (MatchResult-at_ok (λ (j : ℕ). ⊥) (λ (j : ℕ). ⊤) k e tt)
+
+pub slot_free : (first : ℕ) (p : Result ℕ ℕ) {k : ℕ} → slot_at first p ≡ Err k → (i : ℕ) × (p ≡ Err i) × (k ≡ first + i)
+slot_free first (Ok i) {k} e = absurd (MatchResult-at_err (λ (j : ℕ). ⊤) (λ (j : ℕ). ⊥) k e tt)
+slot_free first (Err i) {k} e = (i, refl, MatchResult-at_err (λ (j : ℕ). ⊥) (λ (j : ℕ). j ≡ first + i) k e refl)
+
 -- a row that is sound, read at a place
 slot_is : (base : ℕ) (s : List ℕ) (n node x : ℕ) (first : ℕ) (own : List ℕ) → node + level_units_at base s node ≡ first → row_end base s node n ≡ first + length own
-    → values_from base s first (length own) ≡ own → slot_in base s n node x ≡ slot_at first (spot_from 0 x own)
+    → values_from base s first (length own) ≡ own → slot_in base s n node x ≡ Some (slot_at first (spot_from 0 x own))
 unfolding slot_in
 slot_is base s n node x first own a b c =
     let z : first + length own - first ≡ length own = omega arith in
@@ -78,7 +89,7 @@ module _ (s : List ℕ) {base n room : ℕ} (units : UnitsOf s base n room) (f :
   pub own_asc : AscValues here.own
   own_asc = last_owns values base s n F (stands values 1 s units F (store_holds s st)) (split f) here AscValues st.well.owns
 
-  pub slot-stored : (x : ℕ) {node : ℕ} → node ≡ get_or p.nodes (p.depth - 1) 0 → slot_in base s n node x ≡ slot_at (ahead here.way + level_units here.level) (spot_from 0 x here.own)
+  pub slot-stored : (x : ℕ) {node : ℕ} → node ≡ get_or p.nodes (p.depth - 1) 0 → slot_in base s n node x ≡ Some (slot_at (ahead here.way + level_units here.level) (spot_from 0 x here.own))
   slot-stored x e =
       let a = stands values 1 s units F (store_holds s st) in
       let z : ahead here.way + level_units_at base s (ahead here.way) ≡ ahead here.way + level_units here.level = ap (λ (i : ℕ). ahead here.way + i) (last_units values base s n F a (split f) here) in

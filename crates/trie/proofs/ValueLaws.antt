@@ -1,9 +1,11 @@
 -- A value among ascending ones: where the search finds it or its place, and what putting it in or taking it out does. Assumes nothing.
+use Rattle.std.specs.Prelude.{Result, Ok, Err, MatchResult}
+use Rattle.std.proofs.lemmas.Result.{MatchResult-at_ok, MatchResult-at_err}
 use mathlib.Core.Path.{◌≡◌, refl, sym, ap, subst, ◌∙◌}
 use mathlib.Core.Logic.{⊎_elim}
 use mathlib.Core.Bool.{Bool, true, false, cond, true≢false}
 use mathlib.Core.List.{List, [], ◌∷◌, ◌++◌}
-use Prim.Native.Nat.{ℕ, zero, suc, ◌+◌, ◌≤◌, ◌<◌}
+use Prim.Native.Nat.{ℕ, suc, ◌+◌, ◌≤◌, ◌<◌}
 use native.Mathlib.Omega.{arith}
 use lib.Dec.{eqb, ltb}
 use lib.ListN.{length}
@@ -12,7 +14,6 @@ use Rattle.lent.proofs.Anywhere.{lt-or_ge}
 use Rattle.held.specs.Ascending.{Below, member}
 use Rattle.held.specs.Forest.{AscValues}
 use Rattle.held.specs.Edit.{with_value, without_value}
-use Rattle.trie.specs.declared.Spot.{Spot}
 use Rattle.trie.specs.Values.{spot_from}
 
 -- x is not among the values, and goes before value k; or it is value k
@@ -102,46 +103,33 @@ strictly : (x v : ℕ) → x ≤ v → (v ≡ x → ⊥) → x < v
 strictly x v p n = ⊎_elim (λ (h : x < v). h) (λ (h : v ≤ x). absurd (n (omega arith))) (lt-or_ge x v)
 
 -- what the search answers
-record Told (j x : ℕ) (vs : List ℕ) (p : Spot) : Type 0 where
-  on : j ≤ p.at
-  found : p.held ≡ true → (i : ℕ) → j + i ≡ p.at → Among x vs i
-  missed : p.held ≡ false → (i : ℕ) → j + i ≡ p.at → Apart x vs i
+data Told (j x : ℕ) (vs : List ℕ) : Result ℕ ℕ → Type 0 where
+  found : {k : ℕ} (i : ℕ) → j + i ≡ k → Among x vs i → Told j x vs (Ok k)
+  missed : {k : ℕ} (i : ℕ) → j + i ≡ k → Apart x vs i → Told j x vs (Err k)
 
-told-on : (j x v : ℕ) (vs : List ℕ) (h : v < x) (p : Spot) → Told (suc j) x vs p → Told j x (v ∷ vs) p
-told-on j x v vs h p t = record { on = omega (arith, t.on); found = found-on; missed = missed-on }
-  where
-    found-on : p.held ≡ true → (i : ℕ) → j + i ≡ p.at → Among x (v ∷ vs) i
-    found-on q zero e = absurd (omega (arith, e, t.on))
-    found-on q (suc i) e = among-on x v vs i h (t.found q i (omega (arith, e)))
-
-    missed-on : p.held ≡ false → (i : ℕ) → j + i ≡ p.at → Apart x (v ∷ vs) i
-    missed-on q zero e = absurd (omega (arith, e, t.on))
-    missed-on q (suc i) e = apart-on x v vs i h (t.missed q i (omega (arith, e)))
-
-at_zero : (A : ℕ → Type 0) (j i : ℕ) → j + i ≡ j → A 0 → A i
-at_zero A j i e a = let z : 0 ≡ i = omega (arith, e) in subst A z a
+told-on : (j x v : ℕ) (vs : List ℕ) (h : v < x) {p : Result ℕ ℕ} → Told (suc j) x vs p → Told j x (v ∷ vs) p
+told-on j x v vs h (found i e a) = found (suc i) (omega (arith, e)) (among-on x v vs i h a)
+told-on j x v vs h (missed i e a) = missed (suc i) (omega (arith, e)) (apart-on x v vs i h a)
 
 sought : (j x : ℕ) (vs : List ℕ) → AscValues vs → Told j x vs (spot_from j x vs)
 unfolding spot_from
-sought j x [] a =
-    record {
-      on = omega arith;
-      found = λ (q : false ≡ true) (i : ℕ) (e : j + i ≡ j). absurd (true≢false (sym q));
-      missed = λ (q : false ≡ false) (i : ℕ) (e : j + i ≡ j). at_zero (Apart x []) j i e (record { before = []; after = []; count = refl; all = refl; absent = refl; with = refl });
-    }
+sought j x [] a = missed 0 (omega arith) (record { before = []; after = []; count = refl; all = refl; absent = refl; with = refl })
 sought j x (v ∷ vs) a = go (ltb v x) refl (sought (suc j) x vs a.1)
   where
-    go : (b : Bool) → ltb v x ≡ b → Told (suc j) x vs (spot_from (suc j) x vs) → Told j x (v ∷ vs) (cond b (spot_from (suc j) x vs) (record { at = j; held = eqb v x }))
-    go true q i = told-on j x v vs (ltb-true v x q) (spot_from (suc j) x vs) i
-    go false q w =
-        record {
-          on = omega arith;
-          found = λ (r : eqb v x ≡ true) (i : ℕ) (e : j + i ≡ j). at_zero (Among x (v ∷ vs)) j i e (among_here x v vs (eqb-true v x r) a.0);
-          missed = λ (r : eqb v x ≡ false) (i : ℕ) (e : j + i ≡ j). at_zero (Apart x (v ∷ vs)) j i e (apart_here x v vs (strictly x v (ltb-false v x q) (λ (z : v ≡ x). true≢false (sym (eq-eqb v x z) ∙ r))) a.0);
-        }
+    stop : x ≤ v → (b : Bool) → eqb v x ≡ b → Told j x (v ∷ vs) (cond b (Ok j) (Err j))
+    stop h true r = found 0 (omega arith) (among_here x v vs (eqb-true v x r) a.0)
+    stop h false r = missed 0 (omega arith) (apart_here x v vs (strictly x v h (λ (z : v ≡ x). true≢false (sym (eq-eqb v x z) ∙ r))) a.0)
 
-pub spot_among : (x : ℕ) (vs : List ℕ) → AscValues vs → (spot_from 0 x vs).held ≡ true → Among x vs (spot_from 0 x vs).at
-spot_among x vs a e = (sought 0 x vs a).found e (spot_from 0 x vs).at (omega arith)
+    go : (b : Bool) → ltb v x ≡ b → Told (suc j) x vs (spot_from (suc j) x vs) → Told j x (v ∷ vs) (cond b (spot_from (suc j) x vs) (cond (eqb v x) (Ok j) (Err j)))
+    go true q w = told-on j x v vs (ltb-true v x q) w
+    go false q w = stop (ltb-false v x q) (eqb v x) refl
 
-pub spot_apart : (x : ℕ) (vs : List ℕ) → AscValues vs → (spot_from 0 x vs).held ≡ false → Apart x vs (spot_from 0 x vs).at
-spot_apart x vs a e = (sought 0 x vs a).missed e (spot_from 0 x vs).at (omega arith)
+told : (x : ℕ) (vs : List ℕ) {p : Result ℕ ℕ} → Told 0 x vs p → MatchResult p (Among x vs) (Apart x vs)
+told x vs (found {k = k} i e a) = let z : i ≡ k = omega (arith, e) in subst (Among x vs) z a
+told x vs (missed {k = k} i e a) = let z : i ≡ k = omega (arith, e) in subst (Apart x vs) z a
+
+pub spot_among : (x : ℕ) (vs : List ℕ) → AscValues vs → {k : ℕ} → spot_from 0 x vs ≡ Ok k → Among x vs k
+spot_among x vs a {k} e = MatchResult-at_ok (Among x vs) (Apart x vs) k e (told x vs (sought 0 x vs a))
+
+pub spot_apart : (x : ℕ) (vs : List ℕ) → AscValues vs → {k : ℕ} → spot_from 0 x vs ≡ Err k → Apart x vs k
+spot_apart x vs a {k} e = MatchResult-at_err (Among x vs) (Apart x vs) k e (told x vs (sought 0 x vs a))

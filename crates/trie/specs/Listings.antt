@@ -1,7 +1,7 @@
 -- TO BELIEVE. The calls that ask a store of subscriptions about a name: whether some filter matches it, and which do. Assumes nothing.
 use Rattle.std.specs.Prelude.{Err, Ok, Result, ⊤}
 use Rattle.refusal.specs.declared.Refusal.{Refusal}
-use Rattle.std.specs.Prelude.{◌≡◌, ℕ, Bool, true, false, List, length}
+use Rattle.std.specs.Prelude.{◌≡◌, ℕ, Bool, List, length}
 use Rattle.refusal.specs.declared.Refusal.TheVariants.{NotAStore}
 use Rattle.level.specs.Levels.{split}
 use Rattle.topic.specs.Rules.{name_rules}

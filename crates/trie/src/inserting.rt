@@ -30,15 +30,16 @@ fn insert_value(
     let nodes = p.nodes;
     let last = p.depth - 1;
     let node = nodes[last];
-    let slot = slots::slot_of(s, base, n, node, value);
-    if !slot.sound {
+    let Some(slot) = slots::slot_of(s, base, n, node, value) else {
         return Err(Refusal::NotAStore);
+    };
+    match slot {
+        Ok(_) => Ok(0),
+        Err(at) => {
+            let unit = values::unit_of(value);
+            edit::add_unit(s, base, n, room, nodes, last, node, at, &unit)
+        }
     }
-    if slot.held {
-        return Ok(0);
-    }
-    let unit = values::unit_of(value);
-    edit::add_unit(s, base, n, room, nodes, last, node, slot.at, &unit)
 }
 
 // A value for a filter of at most 128 levels.

@@ -31,17 +31,16 @@ fn remove_value(
     let depth = p.depth;
     let last = depth - 1;
     let node = nodes[last];
-    let slot = slots::slot_of(s, base, n, node, value);
-    if !slot.sound {
+    let Some(slot) = slots::slot_of(s, base, n, node, value) else {
         return Err(Refusal::NotAStore);
-    }
-    if !slot.held {
+    };
+    let Ok(at) = slot else {
         return Ok(0);
-    }
+    };
     if edit::is_alone(s, base, n, node) {
         return edit::take_path(s, base, n, nodes, depth, filter, 1);
     }
-    edit::take_unit(s, base, n, nodes, last, node, slot.at, 1)
+    edit::take_unit(s, base, n, nodes, last, node, at, 1)
 }
 
 // A value of a filter of at most 128 levels.

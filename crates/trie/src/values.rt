@@ -1,31 +1,26 @@
 // A value among those that a node holds.
-ghost use Rattle.std.specs.Prelude.{◌≡◌, ◌+◌, ◌%◌, ◌≤◌, length};
+ghost use Rattle.std.specs.Prelude.{◌≡◌, ◌+◌, ◌%◌, ◌≤◌, length, MatchResult};
 ghost use Rattle.forest.specs.Places.{unit_at};
 ghost use Rattle.region.specs.Units.{value_bytes};
 ghost use Rattle.trie.specs.Values.{values_from, spot_from};
 
-use crate::Spot;
-
-// Looks for a value among the `own` that stand from unit i on. Those are as many as a gap for one more has to move, so that
-// going through them costs no more than that.
-pub fn find_value(s: &[u8], base: usize, i: usize, own: usize, value: u32) -> Spot
+// Looks for a value among the `own` that stand from unit i on: `Ok` where it is, `Err` where it would go. Those are as many as a
+// gap for one more has to move, so that going through them costs no more than that.
+pub fn find_value(s: &[u8], base: usize, i: usize, own: usize, value: u32) -> Result<usize, usize>
     requires { unit_at base (i + own) ≤ length s.now }
-    ensures { (result ≡ spot_from 0 value (values_from base s.now i own)) × (result.at ≤ own) }
+    ensures { (result ≡ spot_from 0 value (values_from base s.now i own)) × MatchResult result (λ at. at ≤ own) (λ at. at ≤ own) }
 {
     let wanted = value as u64;
     for k in 0..own {
         let v = lent::get32(s, base + (i + k) * 16);
         if wanted < v {
-            return Spot { at: k, held: false };
+            return Err(k);
         }
         if wanted <= v {
-            return Spot { at: k, held: true };
+            return Ok(k);
         }
     }
-    Spot {
-        at: own,
-        held: false,
-    }
+    Err(own)
 }
 
 fn byte(n: u32) -> u8

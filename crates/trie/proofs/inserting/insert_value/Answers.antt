@@ -8,21 +8,21 @@ pub overflow_sub-last : goal.overflow_sub-last
 overflow_sub-last c = search (rules, some_depth)
 
 -- src/inserting.rt:37:9
-pub slot_of-slot-requires : goal.slot_of-slot-requires
-slot_of-slot-requires c = search (rules, last_below)
+pub slot_of-requires : goal.slot_of-requires
+slot_of-requires c = search (rules, last_below)
 
 -- src/inserting.rt:39:9
-pub returns-then-not-slot : goal.returns-then-not-slot
-returns-then-not-slot c = search (rules, value_broken)
+pub returns-in_default : goal.returns-in_default
+returns-in_default c = search (rules, value_broken)
 
 -- src/inserting.rt:42:9
-pub returns-then-slot : goal.returns-then-slot
-returns-then-slot c = search (rules, value_there)
+pub returns-in-Ok : goal.returns-in-Ok
+returns-in-Ok c = search (rules, value_there)
 
 -- src/inserting.rt:45:5
 pub add_unit-requires : goal.add_unit-requires
 add_unit-requires c = search (rules, last_below, last_under)
 
 -- src/inserting.rt:22:1
-pub returns : goal.returns
-returns c = search (rules, value_added, c.well_formed)
+pub returns-in-Err : goal.returns-in-Err
+returns-in-Err c = search (rules, value_added, c.well_formed)

@@ -8,16 +8,16 @@ pub overflow_sub-last : goal.overflow_sub-last
 overflow_sub-last c = search (rules, some_depth)
 
 -- src/removing.rt:37:9
-pub slot_of-slot-requires : goal.slot_of-slot-requires
-slot_of-slot-requires c = search (rules, last_below)
+pub slot_of-requires : goal.slot_of-requires
+slot_of-requires c = search (rules, last_below)
 
 -- src/removing.rt:39:9
-pub returns-then-not-slot : goal.returns-then-not-slot
-returns-then-not-slot c = search (rules, gone_broken)
+pub returns-in_default : goal.returns-in_default
+returns-in_default c = search (rules, gone_broken)
 
 -- src/removing.rt:42:9
-pub returns-then-not-slot-2 : goal.returns-then-not-slot-2
-returns-then-not-slot-2 c = search (rules, gone_absent)
+pub returns-in_default-slot : goal.returns-in_default-slot
+returns-in_default-slot c = search (rules, gone_absent)
 
 -- src/removing.rt:44:8
 pub is_alone-requires : goal.is_alone-requires

@@ -1,6 +1,5 @@
 -- `trie::values::find_value` meets its contract. Assumes nothing.
 use Rattle.trie.proofs.SpotLaws.{SpotLeft}
-use Prim.Native.Nat.{◌-◌}
 use Rattle.trie.proofs.values.find_value.Given as goal
 
 abbrev pub invariant-loop-k : goal.invariant-loop-k
