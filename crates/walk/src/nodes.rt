@@ -54,7 +54,9 @@ pub fn level_stop(name: &[u8], from: usize) -> usize
     level::level_end(name, from)
 }
 
-// The children of a node at a depth that a walk goes on to, with the level of the name that begins at a place.
+// The children of a node at a depth that a walk goes on to, with the level of the name that begins at a place. A listing asks for
+// them at every node, so that the call itself would take time.
+#[inline]
 pub fn go_on(
     s: &[u8],
     base: usize,
