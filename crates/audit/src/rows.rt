@@ -64,6 +64,7 @@ pub fn audit_rows(
     requires { (unit_at base n ≤ length s.now) × (64 + n ≤ base) }
     ensures { result ≡ tally kind base s.now d room lo n promised }
 {
+    // Nothing is counted here: each row says where its next sibling begins.
     let mut i = lo;
     let mut left = promised;
     while i < n {

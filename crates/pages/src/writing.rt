@@ -73,6 +73,7 @@ fn row(
     let end = walk.hi;
     let barred = walk.barred;
     let mut sum = spot;
+    // Nothing is counted here: each row says where its next sibling begins.
     let mut i = walk.lo;
     while i < end {
         let node = forest::row_at(s, base, i, end);

@@ -95,6 +95,7 @@ pub fn find_child(
     requires { (unit_at base hi ≤ length s.now) × (64 + hi ≤ base) × (d < 255) }
     ensures { (RawStands base s.now d lo hi → result ≡ child_of level.now lo (raw_in base s.now lo hi)) × Inside lo hi result }
 {
+    // The units are halved, so that a and b come nearer by as much as the row allows: no step of one.
     let mut a = lo;
     let mut b = hi;
     let mut few: usize = PASSED;

@@ -56,6 +56,7 @@ pub fn sweep_rows(
     if DEEPEST < depth {
         return kept;
     }
+    // Nothing is counted here: each row says where its next sibling begins.
     let mut i = lo;
     while i < hi {
         let row = forest::row_at(s, base, i, hi);
