@@ -12,19 +12,22 @@ pub fn find_path(s: &[u8], base: usize, n: usize, text: &[u8]) -> Path
 {
     let size = text.len();
     let mut nodes: [usize; 128] = [0; 128];
-    let mut depth: usize = 0;
     let mut lo: usize = 0;
     let mut hi = n;
     let mut from: usize = 0;
-    while depth < 128 {
+    for depth in 0..128 {
         if size < from {
-            break;
+            return Path {
+                nodes,
+                depth,
+                place: lo,
+                from,
+            };
         }
         let stop = level::level_end(text, from);
         match crate::find_child(s, base, lo, hi, depth + 1, &text[from..stop]) {
             Ok(child) => {
                 nodes[depth] = child.node;
-                depth += 1;
                 lo = child.end;
                 hi = child.past;
                 from = stop + 1;
@@ -41,7 +44,7 @@ pub fn find_path(s: &[u8], base: usize, n: usize, text: &[u8]) -> Path
     }
     Path {
         nodes,
-        depth,
+        depth: 128,
         place: lo,
         from,
     }

@@ -20,8 +20,8 @@ loop-depth-preserved c = search (rules, going_next)
 pub returns-in-Err : goal.returns-in-Err
 returns-in-Err c = search (rules, path-missing)
 
-pub returns-after-loop-depth : goal.returns-after-loop-depth
-returns-after-loop-depth c = search (rules, path_full)
+pub returns : goal.returns
+returns c = search (rules, path_full)
 
 pub returns-then-size-from : goal.returns-then-size-from
 returns-then-size-from c = search (rules, path_end)
