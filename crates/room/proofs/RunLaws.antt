@@ -2,9 +2,10 @@
 use mathlib.Core.Path.{◌≡◌, refl, sym, ap, ◌∙◌}
 use mathlib.Core.Bool.{Bool, true, false, cond, ◌||◌}
 use mathlib.Core.List.{List, [], ◌∷◌, ◌++◌, append_assoc}
-use Prim.Native.Nat.{ℕ, suc, ◌+◌, ◌-◌, ◌*◌, ◌/◌, ◌≤◌, ◌<◌, max}
+use Prim.Native.Nat.{ℕ, zero, suc, ◌+◌, ◌-◌, ◌*◌, ◌/◌, ◌≤◌, ◌<◌}
 use native.Mathlib.Omega.{arith}
 use native.Mathlib.Numerals.{add-one}
+use lib.Dec.{eqb}
 use lib.ListN.{length, drop, replicate, length-append, length-replicate}
 use Rattle.lent.specs.Numbers.{bytes}
 use Rattle.lent.specs.Parts.{patch}
@@ -12,8 +13,9 @@ use Rattle.lent.specs.Total.{write}
 use Rattle.lent.proofs.Parts.{length-patch, patch-append}
 use Rattle.lent.proofs.Digits.{length-bytes}
 use Rattle.level.specs.Kinds.{is_only}
+use Rattle.level.specs.Levels.{split, push, width}
 use Rattle.level.specs.Places.{first, levels_at, end_of}
-use Rattle.level.proofs.Split.{levels_cons, levels-none, part-fits}
+use Rattle.level.proofs.Split.{split_cons, levels_cons, levels-none, part-fits}
 use Rattle.held.specs.Order.{Level, Filter}
 use Rattle.held.specs.Room.{level_cells}
 use Rattle.held.specs.Edit.{weigh}
@@ -205,19 +207,33 @@ module _ (at : ℕ) (tx : List ℕ) (from d : ℕ) (s₀ : List ℕ) (units i p 
       let m : i + 1 ≡ 64 + at + units = rw (n, units-none) at r.many in
       first_written i (replicate 1 255) s t (omega (arith, m, r.long)) f ∙ (rw n at r.same)
 
--- the turns of wanted_for
-pub record WantedLeft (tx : List ℕ) (from nodes cells units p : ℕ) : Type 0 where
-  pub nodes-left : nodes + length (levels_at tx p) ≡ length (levels_at tx from)
-  pub cells_left : cells + weigh level_cells (levels_at tx p) ≡ weigh level_cells (levels_at tx from)
-  pub units-left : units + run_units (levels_at tx p) ≡ run_units (levels_at tx from) + 1
-  pub nodes_most : nodes ≤ p - from
-  pub cells_most : cells ≤ p - from
-  pub units_most : units ≤ 2 * (p - from) + 1
-  pub onward : from ≤ p
-  pub within : p ≤ max from (length tx + 1)
+-- the turns of wanted_for, over all levels, where `rest` is left
+pub record WantedLeft (tx : List ℕ) (from nodes cells units : ℕ) (rest : Filter) : Type 0 where
+  pub nodes-left : nodes + length rest ≡ length (levels_at tx from)
+  pub cells_left : cells + weigh level_cells rest ≡ weigh level_cells (levels_at tx from)
+  pub units-left : units + run_units rest ≡ run_units (levels_at tx from) + 1
+  pub nodes_most : nodes + width rest ≤ length tx + 1
+  pub cells_most : cells + width rest ≤ length tx + 1
+  pub units_most : units + 2 * width rest ≤ 2 * length tx + 3
 
-pub wanted_begin : (tx : List ℕ) (from : ℕ) → WantedLeft tx from 0 0 1 from
-wanted_begin tx from = record { nodes-left = omega arith; cells_left = omega arith; units-left = omega arith; nodes_most = omega arith; cells_most = omega arith; units_most = omega arith; onward = omega arith; within = omega arith }
+-- the levels from a place on take no more bytes than the text and one
+width_push : (t : Bool) (b : ℕ) (l : List ℕ) (ls : List (List ℕ)) → width (push t b (l ∷ ls)) ≡ suc (width (l ∷ ls))
+width_push true b l ls = omega arith
+width_push false b l ls = omega arith
+
+width_split : (s : List ℕ) → width (split s) ≡ suc (length s)
+width_split [] = refl
+width_split (b ∷ s) = rw (split_cons s) (width_push (eqb b 47) b _ _) ∙ ap suc (ap width (sym (split_cons s)) ∙ width_split s)
+
+pub width-levels : (s : List ℕ) (i : ℕ) → width (levels_at s i) ≤ length s + 1
+width-levels s zero = omega (arith, width_split s)
+width-levels [] (suc i) = omega arith
+width-levels (b ∷ s) (suc i) = omega (arith, width-levels s i)
+
+pub wanted_begin : (tx : List ℕ) (from : ℕ) → WantedLeft tx from 0 0 1 (levels_at tx from)
+wanted_begin tx from =
+    let w = width-levels tx from in
+    record { nodes-left = omega arith; cells_left = omega arith; units-left = omega arith; nodes_most = omega arith; cells_most = omega arith; units_most = omega arith }
 
 cells_few : (l : Level) → level_cells l ≤ (length l + 15) / 16
 cells_few l = go (is_only 43 l || is_only 35 l)
@@ -226,39 +242,34 @@ cells_few l = go (is_only 43 l || is_only 35 l)
     go true = omega arith
     go false = omega arith
 
-module _ (tx : List ℕ) (from nodes cells units p : ℕ) (r : WantedLeft tx from nodes cells units p) where
-  pub wanted_step : {l : List ℕ} → p ≤ length tx → l ≡ first (drop p tx) → {c : ℕ} → c ≡ level_cells l
-      → WantedLeft tx from (nodes + 1) (cells + c) (units + (length l + 23) / 16) (p + (length l + 1))
-  wanted_step {l} h e q =
-      let z : p + (length l + 1) ≡ p + length l + 1 = omega arith in
-      let on = levels-on tx l p h e in
-      let gs = levels_at tx (p + length l + 1) in
+module _ {tx : List ℕ} {from nodes cells units : ℕ} {rest : Filter} (r : WantedLeft tx from nodes cells units rest) where
+  pub wanted_step : {l : List ℕ} {gs : Filter} → rest ≡ l ∷ gs → {c : ℕ} → c ≡ level_cells l
+      → WantedLeft tx from (nodes + 1) (cells + c) (units + (length l + 23) / 16) gs
+  wanted_step {l} {gs} e q =
+      let w : width rest ≡ suc (length l) + width gs = ap width e in
       record {
-        nodes-left = rw z (omega (arith, r.nodes-left, ap length on));
-        cells_left = rw z (omega (arith, r.cells_left, ap (weigh level_cells) on, q));
-        units-left = rw z (omega (arith, r.units-left, ap run_units on, units-on l gs));
-        nodes_most = omega (arith, r.nodes_most, r.onward);
-        cells_most = omega (arith, r.cells_most, q, cells_few l, r.onward);
-        units_most = omega (arith, r.units_most, r.onward);
-        onward = omega (arith, r.onward);
-        within = omega (arith, part-fits tx p h e);
+        nodes-left = omega (arith, r.nodes-left, ap length e);
+        cells_left = omega (arith, r.cells_left, ap (weigh level_cells) e, q);
+        units-left = omega (arith, r.units-left, ap run_units e, units-on l gs);
+        nodes_most = omega (arith, r.nodes_most);
+        cells_most = omega (arith, r.cells_most, q, cells_few l);
+        units_most = omega (arith, r.units_most);
       }
 
-  pub wanted_end : length tx < p → WantedFor (levels_at tx from) (record { nodes = nodes; pairs = 1; cells = cells; units = units })
-  wanted_end h =
-      let n : levels_at tx p ≡ [] = levels-none tx p h in
+  pub wanted_end : rest ≡ [] → WantedFor (levels_at tx from) (record { nodes = nodes; pairs = 1; cells = cells; units = units })
+  wanted_end e =
       record {
-        nodes_are = omega (arith, r.nodes-left, ap length n);
+        nodes_are = omega (arith, r.nodes-left, ap length e);
         pairs_are = refl;
-        cells_are = omega (arith, r.cells_left, ap (weigh level_cells) n);
-        units_are = omega (arith, r.units-left, ap run_units n, units-none);
+        cells_are = omega (arith, r.cells_left, ap (weigh level_cells) e);
+        units_are = omega (arith, r.units-left, ap run_units e, units-none);
       }
 
   pub wanted_small : length tx ≤ 65535 → SmallLoad (record { nodes = nodes; pairs = 1; cells = cells; units = units })
   wanted_small h =
       record {
-        nodes_small = omega (arith, r.nodes_most, r.within, r.onward);
+        nodes_small = omega (arith, r.nodes_most);
         pairs_small = omega arith;
-        cells_small = omega (arith, r.cells_most, r.within, r.onward);
-        units_small = omega (arith, r.units_most, r.within, r.onward);
+        cells_small = omega (arith, r.cells_most);
+        units_small = omega (arith, r.units_most);
       }

@@ -95,13 +95,10 @@ pub fn wanted_for(text: &[u8], from: usize) -> Load
     let mut nodes: usize = 0;
     let mut cells: usize = 0;
     let mut units: usize = 1;
-    let mut p = from;
-    while p <= text.len() {
-        let level = level::part_at(text, p);
+    for level in (level::Levels { text, at: from }) {
         nodes += 1;
         cells += region::cells_of(level);
         units += (level.len() + 23) / 16;
-        p += level.len() + 1;
     }
     Load {
         nodes,
