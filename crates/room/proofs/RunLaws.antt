@@ -149,15 +149,15 @@ row_marked at row depth s s₁ s₂ h k f g =
     let n : length {A = ℕ} (replicate (row - 1) 255) ≡ row - 1 = length-replicate {A = ℕ} (row - 1) 255 in
     then_written at (at + 1) (replicate 1 depth) (replicate (row - 1) 255) s s₁ s₂ refl (omega (arith, n)) (first_written at (replicate 1 depth) s s₁ (omega arith) f) g
 
--- the turns of put_marks
-pub record MarksLeft (at : ℕ) (tx : List ℕ) (from d : ℕ) (s₀ : List ℕ) (units i p depth : ℕ) (s : List ℕ) : Type 0 where
-  pub same : patch i (run_marks depth (levels_at tx p)) s ≡ patch (64 + at) (run_marks d (levels_at tx from)) s₀
-  pub many : i + run_units (levels_at tx p) ≡ 64 + at + units
-  pub deep : depth + length (levels_at tx p) ≡ d + length (levels_at tx from)
+-- the turns of put_marks, over all levels, where `rest` is left
+pub record MarksLeft (at d : ℕ) (all : Filter) (s₀ : List ℕ) (units i depth : ℕ) (rest : Filter) (s : List ℕ) : Type 0 where
+  pub same : patch i (run_marks depth rest) s ≡ patch (64 + at) (run_marks d all) s₀
+  pub many : i + run_units rest ≡ 64 + at + units
+  pub deep : depth + length rest ≡ d + length all
   pub long : length s ≡ length s₀
 
-pub marks_begin : (at : ℕ) (tx : List ℕ) (from d : ℕ) (s₀ : List ℕ) (units : ℕ) → units ≡ run_units (levels_at tx from) → MarksLeft at tx from d s₀ units (64 + at) from d s₀
-marks_begin at tx from d s₀ units h = record { same = refl; many = omega (arith, h); deep = refl; long = refl }
+pub marks_begin : (at d : ℕ) (all : Filter) (s₀ : List ℕ) (units : ℕ) → units ≡ run_units all → MarksLeft at d all s₀ units (64 + at) d all s₀
+marks_begin at d all s₀ units h = record { same = refl; many = omega (arith, h); deep = refl; long = refl }
 
 pub length-run_marks : (d : ℕ) (gs : Filter) → length (run_marks d gs) ≡ run_units gs
 unfolding run_marks run_units
@@ -168,44 +168,38 @@ pub marks-on : (d : ℕ) (l : List ℕ) (gs : Filter) → run_marks d (l ∷ gs)
 unfolding run_marks
 marks-on d l gs = refl
 
-module _ (at : ℕ) (tx : List ℕ) (from d : ℕ) (s₀ : List ℕ) (units i p depth : ℕ) (s : List ℕ) (r : MarksLeft at tx from d s₀ units i p depth s) where
-  module _ {l : List ℕ} (h : p ≤ length tx) (e : l ≡ first (drop p tx)) where
-    on : levels_at tx p ≡ l ∷ levels_at tx (p + length l + 1)
-    on = levels-on tx l p h e
+module _ {at d : ℕ} {all : Filter} {s₀ : List ℕ} {units i depth : ℕ} {rest : Filter} {s : List ℕ} (r : MarksLeft at d all s₀ units i depth rest s) where
+  module _ {l : Level} {gs : Filter} (e : rest ≡ l ∷ gs) where
+    marks_rest : i + ((length l + 23) / 16 + run_units gs) ≡ 64 + at + units
+    marks_rest = omega (arith, r.many, ap run_units e, units-on l gs)
 
-    marks_rest : i + ((length l + 23) / 16 + run_units (levels_at tx (p + length l + 1))) ≡ 64 + at + units
-    marks_rest = rw (← units-on l (levels_at tx (p + length l + 1)), ← on) r.many
+    pub depth_small : d + length all ≤ 256 → depth < 256
+    depth_small b = omega (arith, r.deep, ap length e)
 
-    pub depth_small : d + length (levels_at tx from) ≤ 256 → depth < 256
-    depth_small b = omega (arith, r.deep, ap length on)
+    pub marks_fit : 64 + (at + units) ≤ length s₀ → i + (length l + 23) / 16 ≤ length s
+    marks_fit room = omega (arith, marks_rest, r.long)
 
-    pub marks_fit : 64 + (at + units) ≤ length s₀ → {row : ℕ} → row ≡ (length l + 23) / 16 → i + row ≤ length s
-    marks_fit room q = omega (arith, marks_rest, r.long, q)
-
-    pub marks_step : 64 + (at + units) ≤ length s₀ → (t : List ℕ) → t ≡ patch i (depth ∷ replicate ((length l + 23) / 16 - 1) 255) s
-        → MarksLeft at tx from d s₀ units (i + (length l + 23) / 16) (p + (length l + 1)) (depth + 1) t
-    marks_step room t f =
-        let z : p + (length l + 1) ≡ p + length l + 1 = omega arith in
-        let gs = levels_at tx (p + length l + 1) in
+    pub marks_step : 64 + (at + units) ≤ length s₀ → {t : List ℕ} → t ≡ patch i (depth ∷ replicate ((length l + 23) / 16 - 1) 255) s
+        → MarksLeft at d all s₀ units (i + (length l + 23) / 16) (depth + 1) gs t
+    marks_step room f =
         let n : length {A = ℕ} (replicate (level_units l - 1) 255) ≡ level_units l - 1 = length-replicate {A = ℕ} (level_units l - 1) 255 in
         let lr : length (depth ∷ replicate (level_units l - 1) 255) ≡ level_units l = omega (arith, n) in
         let w : i + (length l + 23) / 16 ≡ i + length (depth ∷ replicate (level_units l - 1) 255) = omega (arith, lr) in
         let lm = length-run_marks (depth + 1) gs in
         record {
           same =
-              rw (z, w, f) (patch-append i (depth ∷ replicate (level_units l - 1) 255) (run_marks (depth + 1) gs) s (omega (arith, lr, lm, marks_rest, r.long)))
-              ∙ sym (ap (λ (y : List ℕ). patch i y s) (ap (run_marks depth) on ∙ marks-on depth l gs)) ∙ r.same;
-          many = rw z (omega (arith, marks_rest));
-          deep = rw z (omega (arith, r.deep, ap length on));
+              rw (w, f) (patch-append i (depth ∷ replicate (level_units l - 1) 255) (run_marks (depth + 1) gs) s (omega (arith, lr, lm, marks_rest, r.long)))
+              ∙ sym (ap (λ (y : List ℕ). patch i y s) (ap (run_marks depth) e ∙ marks-on depth l gs)) ∙ r.same;
+          many = omega (arith, marks_rest);
+          deep = omega (arith, r.deep, ap length e);
           long = ap length f ∙ length-patch i (depth ∷ replicate (level_units l - 1) 255) s (omega (arith, lr, marks_rest, r.long)) ∙ r.long;
         }
 
-  pub marks_end : length tx < p → 64 + (at + units) ≤ length s₀ → (t : List ℕ) → t ≡ write i (replicate 1 255) s → t ≡ patch (64 + at) (run_marks d (levels_at tx from)) s₀
+  pub marks_end : rest ≡ [] → 64 + (at + units) ≤ length s₀ → {t : List ℕ} → t ≡ write i (replicate 1 255) s → t ≡ patch (64 + at) (run_marks d all) s₀
   unfolding run_marks
-  marks_end h room t f =
-      let n : levels_at tx p ≡ [] = levels-none tx p h in
-      let m : i + 1 ≡ 64 + at + units = rw (n, units-none) at r.many in
-      first_written i (replicate 1 255) s t (omega (arith, m, r.long)) f ∙ (rw n at r.same)
+  marks_end e room {t} f =
+      let m : i + 1 ≡ 64 + at + units = omega (arith, r.many, ap run_units e, units-none) in
+      first_written i (replicate 1 255) s t (omega (arith, m, r.long)) f ∙ (rw e at r.same)
 
 -- the turns of wanted_for, over all levels, where `rest` is left
 pub record WantedLeft (tx : List ℕ) (from nodes cells units : ℕ) (rest : Filter) : Type 0 where

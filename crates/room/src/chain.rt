@@ -74,13 +74,10 @@ pub fn put_marks(s: &mut [u8], at: usize, text: &[u8], from: usize, units: usize
     ensures { s.new ≡ patch (64 + at) (run_marks d (levels_at text.now from)) s.old }
 {
     let mut i = 64 + at;
-    let mut p = from;
     let mut depth = d;
-    while p <= text.len() {
-        let level = level::part_at(text, p);
+    for level in (level::Levels { text, at: from }) {
         let row = (level.len() + 23) / 16;
         mark_row(s, i, row, depth);
-        p += level.len() + 1;
         i += row;
         depth += 1;
     }
