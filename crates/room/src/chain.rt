@@ -5,7 +5,7 @@ ghost use Rattle.level.specs.Places.{levels_at};
 ghost use Rattle.region.specs.Layout.{level_units, head_bytes, level_bytes};
 ghost use Rattle.forest.specs.Places.{unit_at};
 ghost use Rattle.room.specs.Changes.{SmallLoad};
-ghost use Rattle.room.specs.Runs.{run_units, last_own, run_bytes, run_marks, WantedFor};
+ghost use Rattle.room.specs.Runs.{run_units, run_bytes, run_marks, WantedFor};
 
 use crate::Load;
 
@@ -24,13 +24,6 @@ fn put_row(s: &mut [u8], at: usize, level: &[u8], own: usize, below: usize)
     lent::fill(s, at + 8 + len, fill, 0);
 }
 
-// What the node of a level holds, where the next level begins at place `next`: one, if there is no next level.
-fn own_before(text: &[u8], next: usize) -> usize
-    ensures { result ≡ last_own (levels_at text.now next) }
-{
-    if text.len() < next { 1 } else { 0 }
-}
-
 // The rows for the levels of a text from place `from` on, `units` in all, from unit `at` on. The last holds `unit`.
 pub fn put_rows(
     s: &mut [u8],
@@ -45,16 +38,14 @@ pub fn put_rows(
     ensures { s.new ≡ patch (unit_at base at) (run_bytes unit.now (levels_at text.now from)) s.old }
 {
     let mut i = at;
-    let mut p = from;
     let mut left = units;
-    while p <= text.len() {
-        let level = level::part_at(text, p);
-        let own = own_before(text, p + level.len() + 1);
+    for level in (level::Levels { text, at: from }) {
         let row = (level.len() + 23) / 16;
-        put_row(s, base + i * 16, level, own, left - row - own);
-        p += level.len() + 1;
-        i += row;
         left -= row;
+        // the last node holds the one unit that is left
+        let own = usize::from(left == 1);
+        put_row(s, base + i * 16, level, own, left - own);
+        i += row;
     }
     lent::copy_in(s, base + i * 16, unit);
 }
