@@ -1,6 +1,6 @@
 -- The turns of the search for the first node that goes. Assumes nothing.
 use mathlib.Core.Path.{◌≡◌, refl, sym, ap, ◌∙◌}
-use mathlib.Core.Bool.{Bool, true, false, not}
+use mathlib.Core.Bool.{Bool, true, false}
 use mathlib.Core.List.{List, [], ◌∷◌}
 use Prim.Native.Nat.{ℕ, zero, suc, ◌+◌, ◌-◌, ◌≤◌, ◌<◌}
 use native.Mathlib.Omega.{arith}
@@ -8,12 +8,10 @@ use native.Mathlib.Numerals.{add-one}
 use lib.Dec.{eqb}
 use lib.ListN.{length, take, drop, get_or, length-take, drop_of_length-le}
 use lib.Seq.{drop-cons, get_or-take}
-use borrow.Author.Tests.{eq-eqb, ne_eqb, not-true, not-false}
+use borrow.Author.Tests.{eq-eqb, ne_eqb}
 use Rattle.forest.specs.declared.Row.{Row}
 use Rattle.forest.specs.Places.{RowAt}
-use Rattle.room.specs.Changes.{Under}
 use Rattle.room.specs.Stay.{lone_at, above, staying}
-use Rattle.room.proofs.BelowLaws.{node_below}
 
 module _ (base : ℕ) (s : List ℕ) (n : ℕ) where
   -- the tests of is_lone
@@ -51,54 +49,43 @@ module _ (base : ℕ) (s : List ℕ) (n : ℕ) where
       drop-cons ns (c - 1) 0 (omega arith)
       ∙ ap (λ (l : List ℕ). get_or ns (c - 1) 0 ∷ l) (rw z (drop-cons ns c 0 h ∙ rw add-one))
 
--- the turns of stay
-pub record StayLeft (base : ℕ) (s : List ℕ) (n : ℕ) (nodes : List ℕ) (depth c : ℕ) : Type 0 where
-  pub gone : staying base s n (drop c (take depth nodes)) ≡ 0
-  pub on : c < depth
-
+-- the turns of stay: c - 1 is the place of the first node that is known to go with all below it
 module _ (base : ℕ) (s : List ℕ) (n : ℕ) (nodes : List ℕ) (depth : ℕ) (long : length nodes ≡ 128) (few : depth ≤ 128) where
   path_long : length (take depth nodes) ≡ depth
   path_long = rw length-take (omega (arith, long))
 
-  pub stay_begin : 0 < depth → StayLeft base s n nodes depth (depth - 1)
+  pub stay_begin : 0 < depth → staying base s n (drop (depth - 1) (take depth nodes)) ≡ 0
   unfolding staying
   stay_begin p =
       let none : drop (suc (depth - 1)) (take depth nodes) ≡ [] = drop_of_length-le (take depth nodes) {i = suc (depth - 1)} (omega (arith, path_long)) in
       let one : drop (depth - 1) (take depth nodes) ≡ get_or (take depth nodes) (depth - 1) 0 ∷ [] =
       drop-cons (take depth nodes) (depth - 1) 0 (omega (arith, path_long)) ∙ ap (λ (l : List ℕ). get_or (take depth nodes) (depth - 1) 0 ∷ l) none in
-      record { gone = ap (staying base s n) one; on = omega arith }
+      ap (staying base s n) one
 
-  module _ (c : ℕ) (r : StayLeft base s n nodes depth c) (some : 0 < c) where
-    pair-on : drop (c - 1) (take depth nodes) ≡ get_or nodes (c - 1) 0 ∷ get_or nodes c 0 ∷ drop (c + 1) (take depth nodes)
+  module _ (c : ℕ) (gone : staying base s n (drop (c - 1) (take depth nodes)) ≡ 0) (on : c ≤ depth) (some : 1 < c) where
+    pair-on : drop (c - 1 - 1) (take depth nodes) ≡ get_or nodes (c - 1 - 1) 0 ∷ get_or nodes (c - 1) 0 ∷ drop (c - 1 + 1) (take depth nodes)
     pair-on =
-        two-on base s n (take depth nodes) c some (omega (arith, path_long, r.on))
-        ∙ rw (get_or-take depth nodes (c - 1) 0 (omega (arith, r.on)), get_or-take depth nodes c 0 r.on)
+        two-on base s n (take depth nodes) (c - 1) (omega arith) (omega (arith, path_long))
+        ∙ rw (get_or-take depth nodes (c - 1 - 1) 0 (omega arith), get_or-take depth nodes (c - 1) 0 (omega arith))
 
-    rest-on : drop c (take depth nodes) ≡ get_or nodes c 0 ∷ drop (c + 1) (take depth nodes)
+    rest-on : drop (c - 1) (take depth nodes) ≡ get_or nodes (c - 1) 0 ∷ drop (c - 1 + 1) (take depth nodes)
     rest-on =
-        drop-cons (take depth nodes) c 0 (omega (arith, path_long, r.on)) ∙ rw (get_or-take depth nodes c 0 r.on, add-one)
+        drop-cons (take depth nodes) (c - 1) 0 (omega (arith, path_long)) ∙ rw (get_or-take depth nodes (c - 1) 0 (omega arith), add-one)
 
-    below_none : staying base s n (get_or nodes c 0 ∷ drop (c + 1) (take depth nodes)) ≡ 0
-    below_none = ap (staying base s n) (sym rest-on) ∙ r.gone
+    before : {t : Bool} → t ≡ lone_at base s n (get_or nodes (c - 1 - 1) 0) (get_or nodes (c - 1) 0) → staying base s n (drop (c - 1 - 1) (take depth nodes)) ≡ above t 0
+    before e =
+        let g : staying base s n (get_or nodes (c - 1) 0 ∷ drop (c - 1 + 1) (take depth nodes)) ≡ 0 = ap (staying base s n) (sym rest-on) ∙ gone in
+        ap (staying base s n) pair-on ∙ stay-more base s n (get_or nodes (c - 1 - 1) 0) (get_or nodes (c - 1) 0) (drop (c - 1 + 1) (take depth nodes)) ∙ rw (← e, g)
 
-    pub stay_again : {t : Bool} {i k : ℕ} → t ≡ lone_at base s n i k → i ≡ get_or nodes (c - 1) 0 → k ≡ get_or nodes c 0 → not t ≡ false → StayLeft base s n nodes depth (c - 1)
-    stay_again {t} e ei ek z =
-        let y : lone_at base s n (get_or nodes (c - 1) 0) (get_or nodes c 0) ≡ true = sym (rw (ei, ek) at e) ∙ not-false t z in
-        record {
-          gone = ap (staying base s n) pair-on ∙ stay-more base s n (get_or nodes (c - 1) 0) (get_or nodes c 0) (drop (c + 1) (take depth nodes)) ∙ rw (y, below_none);
-          on = omega (arith, r.on);
-        }
+    pub stay_again : {t : Bool} → t ≡ lone_at base s n (get_or nodes (c - 1 - 1) 0) (get_or nodes (c - 1) 0) → t ≡ true → staying base s n (drop (c - 1 - 1) (take depth nodes)) ≡ 0
+    stay_again e z = before e ∙ ap (λ (t : Bool). above t 0) z
 
-    pub stay_stop : {t : Bool} {i k : ℕ} → t ≡ lone_at base s n i k → i ≡ get_or nodes (c - 1) 0 → k ≡ get_or nodes c 0 → not t ≡ true → c ≡ staying base s n (take depth nodes)
-    stay_stop {t} e ei ek z =
-        let y : lone_at base s n (get_or nodes (c - 1) 0) (get_or nodes c 0) ≡ false = sym (rw (ei, ek) at e) ∙ not-true t z in
-        let o : staying base s n (drop (c - 1) (take depth nodes)) ≡ suc 0 =
-        ap (staying base s n) pair-on ∙ stay-more base s n (get_or nodes (c - 1) 0) (get_or nodes c 0) (drop (c + 1) (take depth nodes)) ∙ rw (y, below_none) in
-        omega (arith, stay_rest base s n (c - 1) 0 (take depth nodes) (omega (arith, path_long, r.on)) o)
+    pub stay_stop : {t : Bool} → t ≡ lone_at base s n (get_or nodes (c - 1 - 1) 0) (get_or nodes (c - 1) 0) → t ≡ false → c - 1 ≡ staying base s n (take depth nodes)
+    stay_stop e z =
+        let o : staying base s n (drop (c - 1 - 1) (take depth nodes)) ≡ suc 0 = before e ∙ ap (λ (t : Bool). above t 0) z in
+        omega (arith, stay_rest base s n (c - 1 - 1) 0 (take depth nodes) (omega (arith, path_long)) o)
 
-  pub stay_end : (c : ℕ) → StayLeft base s n nodes depth c → c ≤ 0 → c ≡ staying base s n (take depth nodes)
-  stay_end zero r h = sym r.gone
-  stay_end (suc c) r h = absurd (omega arith)
-
-pub node_before : (nodes : List ℕ) (depth c n : ℕ) → length nodes ≡ 128 → depth ≤ 128 → c < depth → Under n (take depth nodes) → get_or nodes (c - 1) 0 < n
-node_before nodes depth c n l few h u = node_below nodes depth (c - 1) n l few (omega arith) u
+  pub stay_end : (c : ℕ) → staying base s n (drop (c - 1) (take depth nodes)) ≡ 0 → c ≤ 1 → 0 ≡ staying base s n (take depth nodes)
+  stay_end c gone h =
+      let z : c - 1 ≡ 0 = omega arith in
+      sym (rw z at gone)

@@ -5,7 +5,7 @@ ghost use Rattle.level.specs.Places.{levels_at};
 ghost use Rattle.region.specs.Layout.{level_units, head_bytes, level_bytes};
 ghost use Rattle.forest.specs.Places.{unit_at};
 ghost use Rattle.room.specs.Changes.{SmallLoad};
-ghost use Rattle.room.specs.Runs.{run_units, last_own, run_bytes, run_marks, WantedFor};
+ghost use Rattle.room.specs.Runs.{run_units, run_bytes, run_marks, WantedFor};
 
 use crate::Load;
 
@@ -24,13 +24,6 @@ fn put_row(s: &mut [u8], at: usize, level: &[u8], own: usize, below: usize)
     lent::fill(s, at + 8 + len, fill, 0);
 }
 
-// What the node of a level holds, where the next level begins at place `next`: one, if there is no next level.
-fn own_before(text: &[u8], next: usize) -> usize
-    ensures { result ≡ last_own (levels_at text.now next) }
-{
-    if text.len() < next { 1 } else { 0 }
-}
-
 // The rows for the levels of a text from place `from` on, `units` in all, from unit `at` on. The last holds `unit`.
 pub fn put_rows(
     s: &mut [u8],
@@ -45,16 +38,14 @@ pub fn put_rows(
     ensures { s.new ≡ patch (unit_at base at) (run_bytes unit.now (levels_at text.now from)) s.old }
 {
     let mut i = at;
-    let mut p = from;
     let mut left = units;
-    while p <= text.len() {
-        let level = level::part_at(text, p);
-        let own = own_before(text, p + level.len() + 1);
+    for level in (level::Levels { text, at: from }) {
         let row = (level.len() + 23) / 16;
-        put_row(s, base + i * 16, level, own, left - row - own);
-        p += level.len() + 1;
-        i += row;
         left -= row;
+        // the last node holds the one unit that is left
+        let own = usize::from(left == 1);
+        put_row(s, base + i * 16, level, own, left - own);
+        i += row;
     }
     lent::copy_in(s, base + i * 16, unit);
 }
@@ -74,13 +65,10 @@ pub fn put_marks(s: &mut [u8], at: usize, text: &[u8], from: usize, units: usize
     ensures { s.new ≡ patch (64 + at) (run_marks d (levels_at text.now from)) s.old }
 {
     let mut i = 64 + at;
-    let mut p = from;
     let mut depth = d;
-    while p <= text.len() {
-        let level = level::part_at(text, p);
+    for level in (level::Levels { text, at: from }) {
         let row = (level.len() + 23) / 16;
         mark_row(s, i, row, depth);
-        p += level.len() + 1;
         i += row;
         depth += 1;
     }
@@ -95,13 +83,10 @@ pub fn wanted_for(text: &[u8], from: usize) -> Load
     let mut nodes: usize = 0;
     let mut cells: usize = 0;
     let mut units: usize = 1;
-    let mut p = from;
-    while p <= text.len() {
-        let level = level::part_at(text, p);
+    for level in (level::Levels { text, at: from }) {
         nodes += 1;
         cells += region::cells_of(level);
         units += (level.len() + 23) / 16;
-        p += level.len() + 1;
     }
     Load {
         nodes,

@@ -24,14 +24,10 @@ pub fn stay(s: &[u8], base: usize, n: usize, nodes: [usize; 128], depth: usize) 
     requires { (0 < depth) × (depth ≤ 128) × Under n (take depth nodes) × (unit_at base n ≤ length s.now) }
     ensures { (result ≡ staying base s.now n (take depth nodes)) × (result < depth) }
 {
-    let mut c = depth - 1;
-    while 0 < c {
-        let i = nodes[c - 1];
-        let k = nodes[c];
-        if !is_lone(s, base, n, i, k) {
+    for c in (1..depth).rev() {
+        if !is_lone(s, base, n, nodes[c - 1], nodes[c]) {
             return c;
         }
-        c -= 1;
     }
-    c
+    0
 }

@@ -1,32 +1,24 @@
 -- `room::chain::put_rows` meets its contract. Assumes nothing.
-use Rattle.room.proofs.RunLaws.{level_short, rows_begin, row_within, own-within, row_fits, rows_step, rows_end}
-use borrow.Author.Rules.{rules}
+use Rattle.std.proofs.Common.{arith}
+use Rattle.room.proofs.RunLaws.{level_short, rows_begin, row_within, row_fits, rows_step, rows_end}
 use Rattle.room.proofs.chain.put_rows.Goals as goal
 
--- src/chain.rt:43:5
-pub loop-p-init : goal.loop-p-init
-loop-p-init c = search (rules, rows_begin)
+pub loop-level-init : goal.loop-level-init
+loop-level-init c =
+    let a = c.args in
+    rw c.into_iter-level-iterator.ensures.into_iter_gives (rows_begin a.base a.at a.unit.now a.text.now a.from _ a.units c.requires.1 c.requires.2)
 
--- src/chain.rt:47:47
 pub overflow_sub-left : goal.overflow_sub-left
-overflow_sub-left c = search (rules, row_within)
+overflow_sub-left c = omega (arith, row_within c.loop-level.invariant c.in-Some.ensures.steps)
 
--- src/chain.rt:47:47
-pub overflow_sub-left-in-loop-p : goal.overflow_sub-left-in-loop-p
-overflow_sub-left-in-loop-p c = search (rules, own-within)
-
--- src/chain.rt:47:9
 pub put_row-requires : goal.put_row-requires
-put_row-requires c = search (rules, row_fits, level_short)
+put_row-requires c =
+    let l = c.loop-level in
+    let e = c.in-Some.ensures.steps in
+    (row_fits l.invariant e c.requires.0, level_short l.invariant e)
 
--- src/chain.rt:50:9
-pub overflow_sub-left-in-loop-p-2 : goal.overflow_sub-left-in-loop-p-2
-overflow_sub-left-in-loop-p-2 c = search (rules, row_within)
+pub loop-level-preserved : goal.loop-level-preserved
+loop-level-preserved c = rows_step c.loop-level.invariant c.in-Some.ensures.steps c.from-own.ensures c.requires.0 c.requires.3 c.put_row.ensures
 
--- src/chain.rt:43:5
-pub loop-p-preserved : goal.loop-p-preserved
-loop-p-preserved c = search (rules, rows_step)
-
--- src/chain.rt:36:1
 pub returns : goal.returns
-returns c = search (rules, rows_end)
+returns c = rows_end c.loop-level.invariant c.in-None.ensures.steps.0 c.requires.0 c.requires.3 c.copy_in.ensures

@@ -1,17 +1,14 @@
 -- `room::chain::wanted_for` meets its contract. Assumes nothing.
-use Rattle.room.proofs.RunLaws.{level_short, wanted_begin, wanted_step, wanted_end, wanted_small}
-use borrow.Author.Rules.{rules}
+use Rattle.room.proofs.RunLaws.{wanted_begin, wanted_step, wanted_end, wanted_small}
 use Rattle.room.proofs.chain.wanted_for.Goals as goal
 
--- src/chain.rt:99:5
-pub loop-p-init : goal.loop-p-init
-loop-p-init c = search (rules, wanted_begin)
+pub loop-level-init : goal.loop-level-init
+loop-level-init c = rw c.into_iter-level-iterator.ensures.into_iter_gives (wanted_begin c.args.text.now c.args.from)
 
--- src/chain.rt:102:18
--- src/chain.rt:99:5
-pub loop-p-preserved : goal.loop-p-preserved
-loop-p-preserved c = search (rules, wanted_step)
+pub loop-level-preserved : goal.loop-level-preserved
+loop-level-preserved c = wanted_step c.loop-level.invariant c.in-Some.ensures.steps c.cells_of-cells.ensures.0
 
--- src/chain.rt:91:1
 pub returns : goal.returns
-returns c = search (rules, wanted_end, wanted_small)
+returns c =
+    let left = c.loop-level.invariant in
+    (wanted_end left c.in-None.ensures.steps.0, wanted_small left c.requires)

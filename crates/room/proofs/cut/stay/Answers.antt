@@ -1,25 +1,20 @@
 -- `room::cut::stay` meets its contract. Assumes nothing.
 use Rattle.room.proofs.BelowLaws.{node_below}
-use Rattle.room.proofs.StayLaws.{stay_begin, stay_again, stay_stop, stay_end, node_before}
+use Rattle.room.proofs.StayLaws.{stay_begin, stay_again, stay_stop, stay_end}
 use borrow.Author.Rules.{rules}
 use Rattle.room.proofs.cut.stay.Goals as goal
 
--- src/cut.rt:30:5
 pub loop-c-init : goal.loop-c-init
 loop-c-init c = search (rules, stay_begin)
 
--- src/cut.rt:33:13
 pub is_lone-requires : goal.is_lone-requires
-is_lone-requires c = search (rules, node_below, node_before)
+is_lone-requires c = search (rules, node_below)
 
--- src/cut.rt:34:13
 pub returns-then-not-is_lone : goal.returns-then-not-is_lone
 returns-then-not-is_lone c = search (rules, stay_stop)
 
--- src/cut.rt:30:5
 pub loop-c-preserved : goal.loop-c-preserved
 loop-c-preserved c = search (rules, stay_again)
 
--- src/cut.rt:25:1
 pub returns : goal.returns
 returns c = search (rules, stay_end)
