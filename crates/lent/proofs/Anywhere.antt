@@ -8,7 +8,8 @@ use native.Mathlib.Omega.{arith}
 use lib.ListN.{length, take, drop, get_or, replicate, length-take, length-replicate}
 use Rattle.std.proofs.lemmas.List.{get_or_past}
 use Rattle.std.specs.Int.{w64, from_be_bytes}
-use lib.Seq.{paste, drop-drop, get_or-take, get_or-drop}
+use Rattle.std.proofs.Common.{Fits, w8}
+use lib.Seq.{drop-drop, get_or-take, get_or-drop}
 use lib.Dec.{leb}
 use borrow.Author.Tests.{le-leb, lt-leb, leb-true}
 use borrow.Rule.Slice.PartMut.{put_mid}
@@ -16,7 +17,7 @@ use Rattle.lent.specs.Numbers.{be, bytes}
 use Rattle.lent.specs.Parts.{part, patch}
 use Rattle.lent.specs.Total.{Framed, read, write, opened, closed}
 use Rattle.lent.proofs.Parts.{part-eq, part-part, length_part, length-patch, framed-patch, framed-same}
-use Rattle.lent.proofs.Turns.{part_none, patch-none}
+use Rattle.lent.proofs.Turns.{part_none, patch-none, copy_done}
 use Rattle.lent.proofs.Digits.{length-bytes, get-put, widened, be-lt}
 
 pub lt-or_ge : (a b : ℕ) → (a < b) ⊎ (b ≤ a)
@@ -34,24 +35,37 @@ module _ (w p : ℕ) (s : List ℕ) where
   unfolding read
   nothing_got f = rw f
 
-  -- a part of s that the code puts behind zeros
-  part-bytes : ((i : ℕ) → get_or s i 0 < 256) → (i : ℕ) → get_or (part p w s) i 0 < 256
+  pub got : w ≤ length s → p ≤ length s - w → {r : ℕ} → r ≡ be (take (p + w - p) (drop p s)) → r ≡ read w p s
+  unfolding part
+  got h k e =
+      let q : p + w - p ≡ w = omega arith in
+      rw q at e ∙ sym (read_in (omega arith))
+
+  part-bytes : ((i : ℕ) → Fits w8 (get_or s i 0)) → (i : ℕ) → get_or (part p w s) i 0 < 256
   unfolding part
   part-bytes o i =
       ⊎_elim
-      (λ (h : i < w). rw (get_or-take, get_or-drop) (o (p + i)))
+      (λ (h : i < w). rw (get_or-take, get_or-drop) ((o (p + i)).fits))
       (λ (h : w ≤ i). rw (get_or_past (take w (drop p s)) i 0 (rw length-take (omega arith))) (omega arith))
       (lt-or_ge i w)
 
-  pub got : w ≤ 8 → leb (p + w) (length s) ≡ true → ((i : ℕ) → get_or s i 0 < 256) → {v : List ℕ} → v ≡ take (p + w - p) (drop p s)
-      → {n : ℕ} → n ≡ from_be_bytes w64 (put_mid (8 - w) (8 - (8 - w)) (replicate 8 0) v) → (n ≡ read w p s) × (n < 256 ^ w)
-  got small f o {v} e {n} d =
-      let k : p + w ≤ length s = leb-true _ _ f in
-      let q : p + w - p ≡ w = omega arith in
-      let a : v ≡ part p w s = rw (part-eq, ← q) e in
-      let l : length (part p w s) ≡ w = length_part p w s k in
-      let r : n ≡ be (part p w s) = d ∙ widened w v small (rw a l) ∙ ap be a in
-      (r ∙ sym (read_in k), rw r (rw l at (be-lt (part p w s) (part-bytes o))))
+  -- a part of s that the code puts behind zeros
+  module _ (small : w ≤ 8) (f : leb (p + w) (length s) ≡ true) {v : List ℕ} (e : v ≡ take (p + w - p) (drop p s)) {n : ℕ} (d : n ≡ from_be_bytes w64 (put_mid (8 - w) (8 - (8 - w)) (replicate 8 0) v)) where
+    there : p + w ≤ length s
+    there = leb-true _ _ f
+
+    number : n ≡ be (part p w s)
+    number =
+        let q : p + w - p ≡ w = omega arith in
+        let a : v ≡ part p w s = rw (part-eq, ← q) e in
+        let l : length (part p w s) ≡ w = length_part p w s there in
+        d ∙ widened w v small (rw a l) ∙ ap be a
+
+    pub number_is : n ≡ read w p s
+    number_is = number ∙ sym (read_in there)
+
+    pub number_small : ((i : ℕ) → Fits w8 (get_or s i 0)) → n < 256 ^ w
+    number_small o = let l : length (part p w s) ≡ w = length_part p w s there in rw number (rw l at (be-lt (part p w s) (part-bytes o)))
 
 -- the same from a part of c bytes
 pub from-part : (p c q w : ℕ) (s : List ℕ) → q + w ≤ c → p + c ≤ length s → read w q (take (p + c - p) (drop p s)) ≡ read w (p + q) s
@@ -93,12 +107,11 @@ pub nothing_written : (p : ℕ) (v s : List ℕ) → leb (p + length v) (length 
 unfolding write
 nothing_written p v s f = rw f
 
-pub ruleset writes = (part_written, nothing_written, length-replicate)
+-- a copy whose last turn is done
+pub copied : (p : ℕ) (v s : List ℕ) → leb (p + length v) (length s) ≡ true → {i : ℕ} {t : List ℕ} → i ≤ length v → length v ≤ i → t ≡ patch p (part 0 i v) s → t ≡ write p v s
+copied p v s f {i} h k e = copy_done p i v s _ h k e ∙ sym (write_in p v s (leb-true _ _ f))
 
--- the moves, in the words of the code
-moved : (to from n : ℕ) (s : List ℕ) → from + n ≤ length s → paste s to (drop from s) n ≡ patch to (part from n s) s
-unfolding patch
-moved to from n s h = rw (length_part from n s h, part-eq)
+pub ruleset writes = (part_written, nothing_written, length-replicate)
 
 either : {A : Type 0} (t : Bool) (a : A) → cond t a a ≡ a
 either true a = refl
@@ -113,16 +126,16 @@ module _ (at end by : ℕ) (s : List ℕ) where
   unfolding closed
   close_in h = rw (le-leb (end + by) (length s) h)
 
-  pub open_moved : at ≤ end → leb (end + by) (length s) ≡ true → paste s (at + by) (drop at s) (end - at) ≡ opened at end by s
-  open_moved h f =
-      let k : end + by ≤ length s = leb-true _ _ f in
-      rw open_in (moved (at + by) at (end - at) s (omega arith))
+  -- after the last turn
+  pub open_end : leb (end + by) (length s) ≡ true → {i : ℕ} {t : List ℕ} → at ≤ i → i ≤ at → t ≡ patch (i + by) (part i (end - i) s) s → t ≡ opened at end by s
+  open_end f {i} j l e =
+      let z : i ≡ at = omega arith in
+      rw (open_in (leb-true _ _ f), ← z) e
 
-  pub close_moved : at ≤ end → leb (end + by) (length s) ≡ true → paste s at (drop (at + by) s) (end + by - (at + by)) ≡ closed at end by s
-  close_moved h f =
-      let k : end + by ≤ length s = leb-true _ _ f in
-      let e : end + by - (at + by) ≡ end - at = omega arith in
-      rw (close_in, e) (moved at (at + by) (end - at) s (omega arith))
+  pub close_end : leb (end + by) (length s) ≡ true → {i : ℕ} {t : List ℕ} → i ≤ end → end ≤ i → t ≡ patch at (part (at + by) (i - at) s) s → t ≡ closed at end by s
+  close_end f {i} j l e =
+      let z : i ≡ end = omega arith in
+      rw (close_in (leb-true _ _ f), ← z) e
 
   pub nothing_opened : leb (end + by) (length s) ≡ false → s ≡ opened at end by s
   unfolding opened
@@ -143,7 +156,3 @@ module _ (at end by : ℕ) (s : List ℕ) where
   pub close_none : end < at → s ≡ closed at end by s
   unfolding closed
   close_none h = rw (same at (at + by) h) (sym (either (leb (end + by) (length s)) s))
-
-pub ruleset openings = (open_moved, nothing_opened, open_none)
-
-pub ruleset closings = (close_moved, nothing_closed, close_none)

@@ -37,6 +37,11 @@ module _ (p : ℕ) (v s : List ℕ) (h : p + length v ≤ length s) where
   unfolding patch
   drop-patch = drop_at (take p s ++ v) _ _ head-length
 
+  -- all from p on
+  pub drop-patch_at : drop p (patch p v s) ≡ v ++ drop (p + length v) s
+  unfolding patch
+  drop-patch_at = rw append_assoc (drop_at (take p s) _ p (length-take-le p s (omega arith)))
+
   -- what stands before is as it was
   pub take-patch-le : (k : ℕ) → k ≤ p → take k (patch p v s) ≡ take k s
   unfolding patch
@@ -120,12 +125,20 @@ module _ (p : ℕ) (x y s : List ℕ) (h : p + length x + length y ≤ length s)
   drop_more : drop (p + length x + length y) (patch p x s) ≡ drop (p + length x + length y) s
   drop_more = drop_past (p + length x) (p + length x + length y) _ _ (omega arith) (drop-patch p x s (omega arith))
 
-  -- a write in two halves
+  -- a write in two halves, the first first
   pub patch-append : patch (p + length x) y (patch p x s) ≡ patch p (x ++ y) s
   unfolding patch
   patch-append =
       let k : p + length x ≤ length s = omega arith in
       rw (take-patch p x s, drop_more, length-append) (simp (append_assoc, add_assoc))
+
+  -- and the second first
+  pub patch_prepend : patch p x (patch (p + length x) y s) ≡ patch p (x ++ y) s
+  patch_prepend =
+      let k : p + length x ≤ length s = omega arith in
+      let o : p ≤ p + length x = omega arith in
+      patch-eq p x (patch (p + length x) y s)
+      ∙ rw (take-patch-le, drop-patch_at, patch-eq p (x ++ y) s, length-append) (simp (append_assoc, add_assoc))
 
 -- a write changes nothing outside what it writes
 pub framed-patch : (a b p : ℕ) (v s : List ℕ) → p + length v ≤ length s → a ≤ p → p + length v ≤ b → Framed a b s (patch p v s)

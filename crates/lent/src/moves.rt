@@ -1,4 +1,5 @@
-// Bytes copied in, one byte written many times, and bytes moved to open a gap or to close one.
+// Bytes copied in, one byte written many times, and bytes moved to open a gap or to close one. Copies and moves go byte by byte: a
+// level has few bytes, so that a call for each would take longer, and the library's `copy_within` wants memmove from whoever links it.
 ghost use Rattle.std.specs.Prelude.{◌≡◌, ◌+◌, length, leb, replicate};
 ghost use Rattle.lent.specs.Total.{write, opened, closed};
 
@@ -10,12 +11,13 @@ pub(crate) fn fits(s: &[u8], at: usize, count: usize) -> bool
 }
 
 // Copies all of `bytes` to place `at` of s.
-#[tactic(auto, using(crate::proofs::Anywhere::writes))]
 pub fn copy_in(s: &mut [u8], at: usize, bytes: &[u8])
     ensures { s.new ≡ write at bytes.now s.old }
 {
     if fits(s, at, bytes.len()) {
-        s[at..at + bytes.len()].copy_from_slice(bytes);
+        for i in 0..bytes.len() {
+            s[at + i] = bytes[i];
+        }
     }
 }
 
@@ -30,21 +32,23 @@ pub fn fill(s: &mut [u8], at: usize, count: usize, byte: u8)
 }
 
 // Moves the bytes from `at` to `end` up by `by`. What the gap holds stays.
-#[tactic(auto, using(crate::proofs::Anywhere::openings))]
 pub fn open_gap(s: &mut [u8], at: usize, end: usize, by: usize)
     ensures { s.new ≡ opened at end by s.old }
 {
     if at <= end && fits(s, end, by) {
-        s.copy_within(at..end, at + by);
+        for i in (at..end).rev() {
+            s[i + by] = s[i];
+        }
     }
 }
 
 // Moves the bytes from `at + by` to `end + by` down by `by`.
-#[tactic(auto, using(crate::proofs::Anywhere::closings))]
 pub fn close_gap(s: &mut [u8], at: usize, end: usize, by: usize)
     ensures { s.new ≡ closed at end by s.old }
 {
     if at <= end && fits(s, end, by) {
-        s.copy_within(at + by..end + by, at);
+        for i in at..end {
+            s[i] = s[i + by];
+        }
     }
 }

@@ -3,7 +3,7 @@ ghost use Rattle.std.specs.Prelude.{◌≡◌, ◌^◌, ◌<◌, ◌≤◌};
 ghost use Rattle.lent.specs.Numbers.{bytes};
 ghost use Rattle.lent.specs.Total.{read, write};
 
-use crate::moves::{copy_in, fits};
+use crate::moves::fits;
 
 // The number of N bytes: they are put behind zeros in an array of 8, of which the compiler makes one load.
 fn get<const N: usize>(s: &[u8], at: usize) -> u64
@@ -19,12 +19,14 @@ fn get<const N: usize>(s: &[u8], at: usize) -> u64
 }
 
 // The N low bytes of a number.
-#[tactic(auto, using(crate::proofs::Digits::low_bytes))]
+#[tactic(auto, using(crate::proofs::Digits::low_bytes, crate::proofs::Anywhere::writes))]
 fn put<const N: usize>(s: &mut [u8], at: usize, n: u64)
     requires { N ≤ 8 }
     ensures { s.new ≡ write at (bytes N n) s.old }
 {
-    copy_in(s, at, &n.to_be_bytes()[8 - N..]);
+    if fits(s, at, N) {
+        s[at..at + N].copy_from_slice(&n.to_be_bytes()[8 - N..]);
+    }
 }
 
 pub fn get16(s: &[u8], at: usize) -> u64
