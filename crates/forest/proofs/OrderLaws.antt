@@ -17,13 +17,13 @@ use Rattle.forest.specs.Compare.{order_of}
 module _ (a b : List ℕ) (i : ℕ) {o : Ordering} (turn : order_of (drop i a) (drop i b) ≡ o) where
   -- n bytes are in both
   module _ {n : ℕ} (m : n ≡ min (length a) (length b)) where
-    shorter : i ≤ n → n ≤ i → length a < length b → Less ≡ o
+    pub shorter : i ≤ n → n ≤ i → length a < length b → Less ≡ o
     shorter p q h = rw (drop_of_length-le a {i = i} (omega arith), drop-cons b i 0 (omega arith)) at turn
 
-    longer : i ≤ n → n ≤ i → length b < length a → Greater ≡ o
+    pub longer : i ≤ n → n ≤ i → length b < length a → Greater ≡ o
     longer p q h = rw (drop-cons a i 0 (omega arith), drop_of_length-le b {i = i} (omega arith)) at turn
 
-    both_end : i ≤ n → n ≤ i → length b ≤ length a → length a ≤ length b → Equal ≡ o
+    pub both_end : i ≤ n → n ≤ i → length b ≤ length a → length a ≤ length b → Equal ≡ o
     both_end p q h k = rw (drop_of_length-le a {i = i} (omega arith), drop_of_length-le b {i = i} (omega arith)) at turn
 
     pub ended : i ≤ n → n ≤ i → nat_cmp (length a) (length b) ≡ o

@@ -183,6 +183,13 @@ part_end s i e = ap (λ (l : List ℕ). i + length l) e
 pub part-fits : (s : List ℕ) (i : ℕ) {l : List ℕ} → i ≤ length s → l ≡ first (drop i s) → i + length l ≤ length s
 part-fits s i h e = rw (part_end s i e) (end-within s i h)
 
+-- no level begins past the end
+pub part_past : (s : List ℕ) (i : ℕ) → length s < i → [] ≡ first (drop i s)
+part_past s i h = rw (drop_of_length-le s {i = i} (omega arith))
+
+pub count_end : (s : List ℕ) (i : ℕ) → length s ≤ i → length (split (drop i s)) ≡ 1
+count_end s i h = rw (drop_of_length-le s h)
+
 -- a text has a level more than it has '/'s
 pub count_slashes : (s : List ℕ) → length (split s) - 1 ≡ count_by (λ b. eqb b 47) s
 count_slashes = is_count_by (λ s. length (split s) - 1) (λ b. eqb b 47) refl (λ b s. less (eqb b 47) b s)

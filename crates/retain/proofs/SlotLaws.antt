@@ -87,7 +87,7 @@ module _ (s : List ℕ) {base n room : ℕ} (units : UnitsOf s base n room) (f :
   held_one k (x ∷ y ∷ v) o = absurd o
 
   module _ {node : ℕ} (at : node ≡ get_or p.nodes (p.depth - 1) 0) {answer : Option (Result ℕ ℕ)} (e : answer ≡ slot_in base s n node) {slot : Result ℕ ℕ} (g : answer ≡ Some slot) where
-    slot_held : MatchResult slot (λ (k : ℕ). (k ≡ ahead here.way + level_units here.level) × One here.own) (λ (k : ℕ). (k ≡ ahead here.way + level_units here.level) × (here.own ≡ []))
+    pub slot_held : MatchResult slot (λ (k : ℕ). (k ≡ ahead here.way + level_units here.level) × One here.own) (λ (k : ℕ). (k ≡ ahead here.way + level_units here.level) × (here.own ≡ []))
     slot_held = rw (same_Some slot _ (sym g ∙ e ∙ slot-stored at)) (held_one (ahead here.way + level_units here.level) here.own single)
 
     pub some-held : {k : ℕ} → slot ≡ Ok k → (k ≡ ahead here.way + level_units here.level) × One here.own

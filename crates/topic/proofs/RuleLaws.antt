@@ -26,7 +26,7 @@ module _ (p : List ℕ → Bool) (s : List ℕ) (k : ℕ) {at : ℕ} (e : at ≡
   pub fault-none : length s < at → index p (drop k (split s)) ≡ 0
   fault-none h = rw (levels_out s k e h)
 
--- the answers of `check_levels`, from the number of levels and the two searches
+-- what the levels of a text are told, by where the first bad one and the first '#' stand among them
 module _ (s : List ℕ) {n b : ℕ} (en : n ≡ length (split s)) (eb : b ≡ index bad (split s)) where
   pub levels-bad : b < n → Err (BadLevel b) ≡ checked (level_rules s)
   levels-bad l =
