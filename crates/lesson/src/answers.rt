@@ -1,27 +1,28 @@
 // The answer to a line.
 use crate::words;
 use crate::words::Command;
-use program::{bad_line, say_listing};
+use program::{bad_line, say, say_listing, say_number};
 use refusal::Refusal;
 use std::io;
 use std::io::Write;
 
 // The course shows a refusal by its number alone.
 pub fn say_refusal<W: Write>(output: &mut W, refusal: Refusal) -> io::Result<()> {
-    let number = refusal::number(refusal);
-    writeln!(output, "refused {number}")
+    say(output, b"refused ")?;
+    say_number(output, refusal::number(refusal))?;
+    say(output, b"\n")
 }
 
-// `yes` where something changed, else `no`.
+// `yes` where something changed, else `no`. Each ends its line: nothing stands between it and standard output, so it goes out whole.
 fn say_changed<W: Write>(
     output: &mut W,
     changed: Result<u64, Refusal>,
-    yes: &str,
-    no: &str,
+    yes: &[u8],
+    no: &[u8],
 ) -> io::Result<()> {
     match changed {
-        Ok(1) => writeln!(output, "{yes}"),
-        Ok(_) => writeln!(output, "{no}"),
+        Ok(1) => say(output, yes),
+        Ok(_) => say(output, no),
         Err(refusal) => say_refusal(output, refusal),
     }
 }
@@ -57,11 +58,11 @@ impl<W: Write> Course<W> {
         match words::command_of(line) {
             Some(Command::Sub { value, filter }) => {
                 let changed = trie::insert(&mut self.store, filter, value);
-                say_changed(&mut self.output, changed, "added", "there")
+                say_changed(&mut self.output, changed, b"added\n", b"there\n")
             }
             Some(Command::Unsub { value, filter }) => {
                 let changed = trie::remove(&mut self.store, filter, value);
-                say_changed(&mut self.output, changed, "gone", "absent")
+                say_changed(&mut self.output, changed, b"gone\n", b"absent\n")
             }
             Some(Command::Match { name }) => self.list(name),
             None => self.bad_line(),

@@ -8,11 +8,12 @@ use std::io::{Read, Write};
 
 const LONGEST: usize = 4096;
 
-// The line that is being read. Of one that is too long the first bytes are kept, and how many have come.
+// The line that is being read. Of one that is too long the first bytes are kept, and LONGEST + 1 have come.
 #[derive(Drop)]
 struct Line {
     bytes: [u8; LONGEST],
     come: usize,
+    ghost most: { come ≤ 4097 },
 }
 
 impl Line {
@@ -25,7 +26,7 @@ impl Line {
         if self.come < LONGEST {
             self.bytes[self.come] = byte;
         }
-        self.come = self.come.saturating_add(1);
+        self.come = (self.come + 1).min(LONGEST + 1);
     }
 
     // Answers the line, and begins the next.

@@ -71,5 +71,8 @@ pub fn say_checked<W: Write>(output: &mut W, checked: Result<(), Refusal>) -> io
     ensures refused { IfErr checked (λ refusal. OnOk result (Appends (W.contents output.old) (W.contents output.new)
         (codes "refused " ++ decimal (told refusal).number ++ codes " at " ++ decimal (told refusal).place ++ codes "\n"))) }
 {
-    say_result(output, checked.map(|_| "accepted"))
+    match checked {
+        Ok(()) => writeln!(output, "accepted"),
+        Err(refusal) => say_refusal(output, refusal),
+    }
 }

@@ -1,5 +1,5 @@
 // The lines of the input: the name of a call, and behind a space what it takes. A text is always last, and may have spaces.
-use crate::saying::{Answer, say_accepted, say_answer, say_yes, yes_or_no};
+use crate::saying::{Answer, Word, say_accepted, say_answer, say_yes, yes_or_no};
 use crate::{retained, subscriptions, texts};
 use program::{bad_line, word_and_rest};
 use region::{Capacities, Cells, Kind, Nodes, Pairs};
@@ -7,7 +7,7 @@ use std::io;
 use std::io::Write;
 
 // Makes the store an empty one, of the kind that a word names. One that cannot be opened is a bad line.
-fn open(store: &mut [u8], word: &[u8]) -> Answer<&'static str> {
+fn open(store: &mut [u8], word: &[u8]) -> Answer<Word> {
     let kind = match word {
         b"retained" => Kind::Retained,
         _ => Kind::Subscriptions,
@@ -18,7 +18,7 @@ fn open(store: &mut [u8], word: &[u8]) -> Answer<&'static str> {
         cells: Cells(4096),
     };
     region::open(store, kind, most).ok()?;
-    Some(Ok("opened"))
+    Some(Ok(Word(b"opened\n")))
 }
 
 // Makes a call on a text alone.

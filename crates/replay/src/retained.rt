@@ -1,8 +1,8 @@
 // The calls on a store of retained names.
-use crate::saying::{Answer, say_refused};
-use program::{bad_line, number_of, say_lookup, word_and_rest};
+use crate::saying::{Answer, Line, say_refused};
+use program::{bad_line, number_of, say, say_lookup, say_number, word_and_rest};
+use std::io;
 use std::io::Write;
-use std::{fmt, io};
 
 // A payload's length, a handle, a moment or `never`, and a name.
 pub fn set(store: &mut [u8], words: &[u8]) -> Answer<u64> {
@@ -43,29 +43,27 @@ pub struct Given {
     more: bool,
 }
 
-impl fmt::Display for Given {
-    fn fmt<W: fmt::Write>(&self, f: &mut fmt::Formatter<W>) -> fmt::Result {
-        let records = self.records;
+impl Line for Given {
+    fn say<W: Write>(self, output: &mut W) -> io::Result<()> {
+        say_number(output, self.records as u64)?;
         if self.more {
-            write!(f, "{records} more")
+            say(output, b" more\n")
         } else {
-            write!(f, "{records} no more")
+            say(output, b" no more\n")
         }
     }
 }
 
 // A clock, how many records are skipped, and how many are given at most.
 pub fn page(store: &[u8], words: &[u8]) -> Answer<Given> {
-    let mut room: [u8; 65536] = [0; 65536];
     let (clock, words) = word_and_rest(words);
     let (offset, limit) = word_and_rest(words);
-    let page = retain::get_all_paginated(
-        store,
-        number_of(clock)?,
-        number_of(offset)?,
-        number_of(limit)?,
-        &mut room,
-    );
+    let clock = number_of(clock)?;
+    let offset = number_of(offset)?;
+    let limit = number_of(limit)?;
+    // behind the numbers: a bad line fills no room
+    let mut room: [u8; 65536] = [0; 65536];
+    let page = retain::get_all_paginated(store, clock, offset, limit, &mut room);
     Some(page.map(|page| Given {
         records: page.records,
         more: page.more,

@@ -1,6 +1,6 @@
 // A store of a case, with where its answers go. Each call prints what it answers, behind a label.
 use edit::Listed;
-use program::{Shown, say_checked, say_result};
+use program::{say, say_checked, say_number, say_refusal, say_result};
 use refusal::Refusal;
 use region::{Capacities, Cells, Kind, Nodes, Pairs};
 use std::io;
@@ -13,8 +13,15 @@ fn say_changed<W: Write>(
     changed: Result<u64, Refusal>,
 ) -> io::Result<()> {
     match changed {
-        Ok(answer) => writeln!(output, "{label}: answered {answer}"),
-        Err(refusal) => writeln!(output, "{label}: {}", Shown(refusal)),
+        Ok(answer) => {
+            write!(output, "{label}: answered ")?;
+            say_number(output, answer)?;
+            say(output, b"\n")
+        }
+        Err(refusal) => {
+            write!(output, "{label}: ")?;
+            say_refusal(output, refusal)
+        }
     }
 }
 
@@ -29,11 +36,15 @@ fn say_listed<W: Write>(
         Ok(listed) => {
             write!(output, "{label}:")?;
             for byte in &out[..listed.bytes.min(out.len())] {
-                write!(output, " {byte}")?;
+                say(output, b" ")?;
+                say_number(output, u64::from(*byte))?;
             }
             writeln!(output)
         }
-        Err(refusal) => writeln!(output, "{label}: {}", Shown(refusal)),
+        Err(refusal) => {
+            write!(output, "{label}: ")?;
+            say_refusal(output, refusal)
+        }
     }
 }
 
