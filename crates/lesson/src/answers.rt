@@ -13,7 +13,8 @@ pub fn say_refusal<W: Write>(output: &mut W, refusal: Refusal) -> io::Result<()>
     say(output, b"\n")
 }
 
-// `yes` where something changed, else `no`. Each ends its line: nothing stands between it and standard output, so it goes out whole.
+// `yes` where something changed, else `no`. Each has its newline: nothing stands between it and standard output, so it goes out
+// whole.
 fn say_changed<W: Write>(
     output: &mut W,
     changed: Result<u64, Refusal>,
